@@ -1,0 +1,9 @@
+use Prim.Native.Nat.{ℕ, _≤_}
+use native.Mathlib.Omega.{arith}
+use lib.ListN.{length, length-take}
+use Rattle.fifo.specs.declared.numbers.Numbers.{Numbers}
+use Rattle.fifo.specs.Items.{items}
+
+-- a sequence of numbers has at most eight
+pub items-fit : (b : Numbers) → length (items b) ≤ 8
+items-fit b = let f = b .fits in simp length-take (omega arith)
