@@ -1,8 +1,8 @@
 // The queue functions at three kinds of record.
-use crate::numbers::Numbers;
-use crate::queue;
-use crate::queue::Keyed;
-use crate::queue::U32Keyed;
+use fifo::numbers::Numbers;
+use fifo::queue;
+use fifo::queue::Keyed;
+use fifo::queue::U32Keyed;
 use std::test::*;
 
 #[derive(Clone, Copy)]
