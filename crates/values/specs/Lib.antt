@@ -6,3 +6,4 @@ pub mod Check
 pub mod Refusals
 pub mod Laws
 pub mod Edges
+pub mod Ticks

@@ -5,5 +5,7 @@ pub mod checked;
 pub mod fault;
 pub mod filter;
 pub mod laws;
+pub mod notification;
 pub mod number;
+pub mod ticks;
 pub mod value;

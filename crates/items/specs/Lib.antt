@@ -1,0 +1,4 @@
+pub mod Queue
+pub mod Item
+pub mod Faults
+pub mod Edges
