@@ -1,3 +1,4 @@
 pub mod Orders
 mod Listed
 mod Found
+pub mod Turning

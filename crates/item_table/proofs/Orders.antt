@@ -2,12 +2,15 @@
 use mathlib.Core.Path.{_≡_, refl, sym, ap, _∙_}
 use mathlib.Core.Bool.{Bool, true, false, cond, not}
 use mathlib.Core.List.{List, [], _∷_, _++_, map}
-use Prim.Native.Nat.{ℕ, _≤_, _<_}
+use Prim.Native.Nat.{ℕ, zero, suc, _≤_, _<_}
 use native.Mathlib.Omega.{arith}
-use borrow.Author.Tests.{ltb-true, lt-ltb, eqb-true}
+use borrow.Author.Tests.{ltb-true, lt-ltb, eqb-true, eq-eqb, ne-eqb}
+use lib.ListN.{length, getD}
+use Rattle.std.specs.Options.{mapped}
+use Rattle.std.specs.declared.option.Option.the-variants.{Some, None}
 use lib.Dec.{eqb, ltb, leb}
 use Rattle.std.specs.shelf.Lists.{kept-by}
-use Rattle.fifo.specs.Lists.{replaced, without}
+use Rattle.fifo.specs.Lists.{position, replaced, without}
 use Rattle.sources.specs.declared.source.Standing.{Standing}
 use Rattle.sources.specs.Standings.{sampleOf}
 use Rattle.items.specs.declared.item.Mode.{Mode}
@@ -81,3 +84,24 @@ ticked-id stands x = mode (x .mode)
     mode Disabled = refl
     mode Sampling = counts
     mode Reporting = counts
+
+-- every key is above the bound
+pub above : {X : Type 0} (f : X → ℕ) (b : ℕ) (xs : List X) (i : ℕ) (d : X) → risingBy f b xs ≡ true → i < length xs → b < f (getD xs i d)
+above f b [] i d h l = absurd (omega arith)
+above f b (x ∷ xs) zero d h l = let p = both (ltb b (f x)) (risingBy f (f x) xs) h in ltb-true b (f x) (p .0)
+above f b (x ∷ xs) (suc i) d h l =
+    let p = both (ltb b (f x)) (risingBy f (f x) xs) h in
+    let q : b < f x = ltb-true b (f x) (p .0) in
+    let r : f x < f (getD xs i d) = above f (f x) xs i d (p .1) (omega arith) in
+    omega arith
+
+-- in a list by rising key, what stands at a place is the first with its key
+pub position-rising : {X : Type 0} (f : X → ℕ) (b : ℕ) (xs : List X) (i : ℕ) (d : X) → risingBy f b xs ≡ true → i < length xs → position f (f (getD xs i d)) xs ≡ Some i
+position-rising f b [] i d h l = absurd (omega arith)
+position-rising f b (x ∷ xs) zero d h l = ap (λ t. cond t (Some 0) (mapped suc (position f (f x) xs))) (eq-eqb (f x) (f x) refl)
+position-rising f b (x ∷ xs) (suc i) d h l =
+    let p = both (ltb b (f x)) (risingBy f (f x) xs) h in
+    let k : i < length xs = omega arith in
+    let a : f x < f (getD xs i d) = above f (f x) xs i d (p .1) k in
+    let n : eqb (f x) (f (getD xs i d)) ≡ false = ne-eqb (f x) (f (getD xs i d)) (λ e. omega (arith, e)) in
+    ap (λ t. cond t (Some 0) (mapped suc (position f (f (getD xs i d)) xs))) n ∙ ap (mapped suc) (position-rising f (f x) xs i d (p .1) k)

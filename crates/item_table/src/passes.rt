@@ -2,12 +2,14 @@
 ghost use mathlib.Core.Path.{_≡_};
 ghost use mathlib.Core.List.{map};
 ghost use Prim.Native.Nat.{_≤_, _<_};
-ghost use lib.ListN.{length, take};
+ghost use lib.ListN.{length, take, getD, set};
+ghost use Rattle.std.specs.declared.option.Option.the-variants.{Some};
 ghost use Rattle.std.specs.Options.{Cases as BySome};
-ghost use Rattle.items.specs.Item.{itemOf, ticked};
+ghost use Rattle.items.specs.Item.{Item, itemOf, ticked, served};
 ghost use Rattle.item_table.specs.Table.{others};
-ghost use Rattle.item_table.specs.Turn.{waitsAfter};
+ghost use Rattle.item_table.specs.Turn.{waitsAfter, servedBy};
 ghost use Rattle.item_table.specs.Places.{positionBy};
+use crate::served::Served;
 use items::item::MonitoredItem;
 use sources::source::Source;
 
@@ -69,4 +71,17 @@ pub fn place_after(
         }
     }
     None
+}
+
+// Takes the oldest waiting sample of the item at a place.
+pub fn serve_at(items: &mut [MonitoredItem], i: usize) -> Option<Served>
+    requires { ⌜ i < length (now items) ⌝ }
+    ensures value { λ r. ⌜ ((d : Item) → r ≡ servedBy (Some (getD (map itemOf (now (items .entry))) i d))) ⌝ }
+    ensures after { λ _. ⌜ ((d : Item) → map itemOf (now (items .exit)) ≡ set (map itemOf (now (items .entry))) i (served (getD (map itemOf (now (items .entry))) i d))) ⌝ }
+{
+    let id = items[i].identity.id;
+    match items[i].take_oldest() {
+        Some(notification) => Some(Served { id, notification }),
+        None => None,
+    }
 }

@@ -9,6 +9,7 @@ ghost use Rattle.item_table.specs.Rising.{rising};
 use items::item::MonitoredItem;
 
 pub mod methods;
+pub mod turns;
 
 // At most 32 items, by rising id.
 #[derive(Clone, Copy)]
