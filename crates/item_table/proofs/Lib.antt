@@ -2,3 +2,5 @@ pub mod Orders
 mod Listed
 mod Found
 pub mod Turning
+pub mod Fairness
+mod Repeated

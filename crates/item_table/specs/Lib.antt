@@ -2,3 +2,4 @@ pub mod Rising
 pub mod Table
 pub mod Turn
 pub mod Places
+pub mod Fair
