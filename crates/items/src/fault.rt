@@ -20,10 +20,10 @@ pub enum ItemFault {
 pub impl From<FilterFault> for ItemFault as ItemFromFilter {
     ghost converts = { λ e r. r ≡ Filter e };
 
-    fn from(fault: FilterFault) -> ItemFault
-        ensures { λ r. ⌜ r ≡ ItemFault.Filter fault ⌝ }
+    fn from(filter: FilterFault) -> ItemFault
+        ensures { λ r. ⌜ r ≡ ItemFault.Filter filter ⌝ }
     {
-        ItemFault::Filter(fault)
+        ItemFault::Filter(filter)
     }
 }
 
@@ -48,7 +48,7 @@ impl ItemFault {
 }
 
 impl Mode {
-    pub fn from_code(code: u32) -> Option<Mode>
+    fn from_code(code: u32) -> Option<Mode>
         ensures { λ r. ⌜ r ≡ modeOf code ⌝ }
     {
         match code {

@@ -2,6 +2,8 @@
 #[cfg(test)]
 mod changes;
 #[cfg(test)]
+mod monitoring;
+#[cfg(test)]
 mod plants;
 #[cfg(test)]
 mod queues;

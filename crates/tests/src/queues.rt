@@ -1,8 +1,8 @@
 // The queue functions at three kinds of record.
-use fifo::numbers::Numbers;
 use fifo::queue;
 use fifo::queue::Keyed;
 use fifo::queue::U32Keyed;
+use numbers::numbers::Numbers;
 use std::test::*;
 
 #[derive(Clone, Copy)]

@@ -5,11 +5,11 @@ ghost use Prim.Native.Nat.{_+_, _<_, _≤_};
 ghost use lib.Dec.{eqb};
 ghost use lib.ListN.{length};
 ghost use Rattle.std.specs.Options.{isSome, Cases as BySome};
 ghost use Rattle.fifo.specs.Lists.{none, first, rest, lookup, without};
-ghost use Rattle.fifo.specs.Items.{items, number-at};
+ghost use Rattle.numbers.specs.Items.{items, number-at};
 use crate::numbers::Numbers;
-use crate::queue;
-use crate::queue::U32Keyed;
+use fifo::queue;
+use fifo::queue::U32Keyed;
 
 impl Numbers {
     pub fn new() -> Self

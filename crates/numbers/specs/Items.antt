@@ -5,7 +5,7 @@ use lib.Dec.{ltb}
 use lib.ListN.{length, take, getD}
 use Rattle.std.specs.declared.option.Option.{Option}
 use Rattle.std.specs.declared.option.Option.the-variants.{Some, None}
-use Rattle.fifo.specs.declared.numbers.Numbers.{Numbers}
+use Rattle.numbers.specs.declared.numbers.Numbers.{Numbers}
 
 -- what a bounded sequence of numbers holds, in order
 abbrev pub items : Numbers → List ℕ

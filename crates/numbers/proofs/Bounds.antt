@@ -1,8 +1,8 @@
 use Prim.Native.Nat.{ℕ, _≤_}
 use native.Mathlib.Omega.{arith}
 use lib.ListN.{length, length-take}
-use Rattle.fifo.specs.declared.numbers.Numbers.{Numbers}
-use Rattle.fifo.specs.Items.{items}
+use Rattle.numbers.specs.declared.numbers.Numbers.{Numbers}
+use Rattle.numbers.specs.Items.{items}
 
 -- a sequence of numbers has at most eight
 pub items-fit : (b : Numbers) → length (items b) ≤ 8
