@@ -16,7 +16,8 @@ use Rattle.sources.specs.Standings.{sampleOf}
 use Rattle.items.specs.declared.item.Mode.{Mode}
 use Rattle.items.specs.declared.item.Mode.the-variants.{Disabled, Sampling, Reporting}
 use Rattle.items.specs.Item.{Item, ticked, byMode, counted, offered, counting, accepts}
-use Rattle.item_table.specs.Rising.{idOf, risingBy, rising}
+use Rattle.items.specs.Keys.{idOf}
+use Rattle.item_table.specs.Rising.{risingBy, rising}
 use Rattle.item_table.specs.Table.{allBelow}
 
 pub both : (t r : Bool) → cond t r false ≡ true → (t ≡ true) × (r ≡ true)

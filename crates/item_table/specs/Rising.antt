@@ -4,9 +4,7 @@ use mathlib.Core.List.{List, [], _∷_}
 use mathlib.Core.Bool.{Bool, true, false, cond}
 use lib.Dec.{ltb}
 use Rattle.items.specs.Item.{Item}
-
-abbrev pub idOf : Item → ℕ
-idOf x = x .identity .id
+use Rattle.items.specs.Keys.{idOf}
 
 -- each key is above the one before it, the first above b
 abbrev pub risingBy : {X : Type 0} → (X → ℕ) → ℕ → List X → Bool

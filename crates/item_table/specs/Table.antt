@@ -10,7 +10,7 @@ use Rattle.std.specs.declared.option.Option.the-variants.{Some, None}
 use Rattle.fifo.specs.Lists.{lookup}
 use Rattle.items.specs.declared.item.MonitoredItem.{MonitoredItem}
 use Rattle.items.specs.Item.{Item, itemOf}
-use Rattle.item_table.specs.Rising.{idOf}
+use Rattle.items.specs.Keys.{idOf}
 use Rattle.item_table.specs.declared.table.ItemTable.{ItemTable}
 
 abbrev pub itemsOf : ItemTable → List Item

@@ -6,6 +6,8 @@ ghost use lib.ListN.{length, take, getD, set};
 ghost use Rattle.std.specs.declared.option.Option.the-variants.{Some};
 ghost use Rattle.std.specs.Options.{Cases as BySome};
 ghost use Rattle.items.specs.Item.{Item, itemOf, ticked, served};
+ghost use mathlib.Core.Bool.{true};
+ghost use Rattle.item_table.specs.Rising.{rising};
 ghost use Rattle.item_table.specs.Table.{others};
 ghost use Rattle.item_table.specs.Turn.{waitsAfter, servedBy};
 ghost use Rattle.item_table.specs.Places.{positionBy};
@@ -16,7 +18,8 @@ use sources::source::Source;
 // One tick of every item, by rising id.
 pub fn tick_all<S: Source>(items: &mut [MonitoredItem], len: usize, source: &S)
     requires { ⌜ len ≤ length (now items) ⌝ }
-    ensures { λ _. ⌜ map itemOf (take len (now (items .exit))) ≡ map (ticked (S·Source .stands (now (source .entry)))) (map itemOf (take len (now (items .entry)))) ⌝ }
+    ensures order { λ _. ⌜ (rising (map itemOf (take len (now (items .entry)))) ≡ true → rising (map itemOf (take len (now (items .exit)))) ≡ true) ⌝ }
+    ensures after { λ _. ⌜ map itemOf (take len (now (items .exit))) ≡ map (ticked (S·Source .stands (now (source .entry)))) (map itemOf (take len (now (items .entry)))) ⌝ }
 {
     for i in 0..len {
         items[i].tick(source);
@@ -26,6 +29,7 @@ pub fn tick_all<S: Source>(items: &mut [MonitoredItem], len: usize, source: &S)
 // Moves the items of all other subscriptions to the front, in their order; how many they are.
 pub fn keep_others(items: &mut [MonitoredItem], len: usize, subscription: u32) -> usize
     requires { ⌜ len ≤ length (now items) ⌝ }
+    ensures order { λ r. ⌜ (rising (map itemOf (take len (now (items .entry)))) ≡ true → rising (map itemOf (take r (now (items .exit)))) ≡ true) ⌝ }
     ensures after { λ r. ⌜ map itemOf (take r (now (items .exit))) ≡ others subscription (map itemOf (take len (now (items .entry)))) ⌝ }
     ensures bound { λ r. ⌜ r ≤ len ⌝ }
 {

@@ -1,6 +1,4 @@
-ghost use Rattle.items.specs.Keys.{idOfItem};
 use crate::waiting::WaitingQueue;
-use fifo::queue::Keyed;
 use values::checked::CheckedFilter;
 use values::value::Kind;
 use values::value::Sample;
@@ -41,12 +39,4 @@ pub struct MonitoredItem {
     pub countdown: u32,
     pub last_queued: Option<Sample>,
     pub queue: WaitingQueue,
-}
-
-pub impl Keyed for MonitoredItem as ItemKeyed {
-    ghost tag = { idOfItem };
-
-    fn key(&self) -> u32 {
-        self.identity.id
-    }
 }

@@ -2,5 +2,6 @@
 pub mod edges;
 pub mod fault;
 pub mod item;
+pub mod row;
 pub mod steps;
 pub mod waiting;

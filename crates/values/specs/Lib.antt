@@ -7,3 +7,4 @@ pub mod Refusals
 pub mod Laws
 pub mod Edges
 pub mod Ticks
+pub mod Notifications

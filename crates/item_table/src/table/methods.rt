@@ -7,16 +7,16 @@ ghost use lib.ListN.{length};
 ghost use Rattle.std.specs.Options.{mapped};
 ghost use Rattle.fifo.specs.Lists.{replaced, without};
 ghost use Rattle.items.specs.Item.{itemOf, ticked};
-ghost use Rattle.item_table.specs.Rising.{idOf};
+ghost use Rattle.items.specs.Keys.{idOf};
 ghost use Rattle.item_table.specs.Table.{itemsOf, allBelow, itemIn, others};
 use crate::passes;
 use crate::table::ItemTable;
-use fifo::queue;
 use items::item::Identity;
-use items::item::ItemKeyed;
 use items::item::Mode;
 use items::item::MonitoredItem;
 use items::item::Settings;
+use items::row::ItemKeyed;
+use items::row::ItemRow;
 use sources::source::Source;
 use values::checked::CheckedFilter;
 use values::filter::Deadband;
@@ -64,7 +64,17 @@ impl ItemTable {
         ensures value { λ r. ⌜ r ≡ eqb (length (itemsOf (now (self .entry)))) 32 ⌝ }
         ensures room { λ r. ⌜ (r ≡ false → length (itemsOf (now (self .entry))) < 32) ⌝ }
     {
-        self.len == 32
+        tables::in_use(&self.items, self.len).len() == 32
+    }
+
+    fn push(&mut self, item: MonitoredItem)
+        requires room { ⌜ length (itemsOf (now self)) < 32 ⌝ }
+        requires above { ⌜ allBelow (item .identity .id) (itemsOf (now self)) ≡ true ⌝ }
+        requires id { ⌜ 0 < item .identity .id ⌝ }
+        ensures { λ _. ⌜ itemsOf (now (self .exit)) ≡ itemsOf (now (self .entry)) ++ itemOf item ∷ [] ⌝ }
+    {
+        tables::push(&mut self.items, self.len, item);
+        self.len += 1;
     }
 
     // Adds an item whose id is above all others'.
@@ -74,15 +84,14 @@ impl ItemTable {
         requires id { ⌜ 0 < item .identity .id ⌝ }
         ensures { λ _. ⌜ itemsOf (now (self .exit)) ≡ itemsOf (now (self .entry)) ++ itemOf item ∷ [] ⌝ }
     {
-        queue::push(&mut self.items, self.len, item);
-        self.len += 1;
+        self.push(item);
     }
 
     // The item with the id, where it is of the subscription.
     pub fn find(&self, subscription: u32, id: u32) -> Option<MonitoredItem>
         ensures { λ r. ⌜ mapped itemOf r ≡ itemIn subscription id (itemsOf (now (self .entry))) ⌝ }
     {
-        let item = queue::lookup(&self.items, self.len, id)?;
+        let item = tables::lookup(&self.items, self.len, id)?;
         if item.identity.subscription == subscription {
             Some(item)
         } else {
@@ -94,18 +103,13 @@ impl ItemTable {
     pub fn replace(&mut self, item: MonitoredItem)
         ensures { λ _. ⌜ itemsOf (now (self .exit)) ≡ replaced idOf (itemOf item) (itemsOf (now (self .entry))) ⌝ }
     {
-        if let Some(i) = queue::find(&self.items, self.len, item.identity.id) {
-            self.items[i] = item;
-        }
+        tables::replace(&mut self.items, self.len, item);
     }
 
     pub fn remove(&mut self, id: u32)
         ensures { λ _. ⌜ itemsOf (now (self .exit)) ≡ without idOf id (itemsOf (now (self .entry))) ⌝ }
     {
-        if let Some(i) = queue::find(&self.items, self.len, id) {
-            let _ = queue::remove(&mut self.items, self.len, i);
-            self.len -= 1;
-        }
+        self.len = tables::remove(&mut self.items, self.len, id);
     }
 
     // Removes all items of the subscription.

@@ -10,6 +10,9 @@ use Rattle.std.proofs.shelf.Filters.{keeping-more-set, keeping-more-no}
 use Rattle.items.specs.Item.{itemOf}
 use Rattle.item_table.specs.Table.{belongs}
 use Rattle.item_table.proofs.Listed.{kept-map}
+use Rattle.items.specs.Keys.{idOf}
+use Rattle.item_table.specs.Rising.{rising}
+use Rattle.item_table.proofs.Orders.{rising-kept}
 use Rattle.item_table.proofs.passes.keep_others.Needs as need
 
 pub loop-i-again-then-item-subscription : need.loop-i-again-then-item-subscription
@@ -25,10 +28,13 @@ loop-i-again c =
 pub returns : need.returns
 returns c =
     let e : c .loop-i .i ≡ c .args .len = omega arith in
+    let xs = c .args .items .now in
+    let a : map itemOf (take (c .loop-i .count) (c .loop-i .items)) ≡ kept-by (λ x. not (belongs (c .args .subscription) x)) (map itemOf (take (c .args .len) xs)) =
+    ap (map itemOf) (c .loop-i .inv .front)
+    ∙ ap (λ k. map itemOf (kept-by (λ m. not (belongs (c .args .subscription) (itemOf m))) (take k xs))) e
+    ∙ kept-map itemOf (λ x. not (belongs (c .args .subscription) x)) (take (c .args .len) xs) in
     record {
-      after =
-          ap (map itemOf) (c .loop-i .inv .front)
-          ∙ ap (λ k. map itemOf (kept-by (λ m. not (belongs (c .args .subscription) (itemOf m))) (take k (c .args .items .now)))) e
-          ∙ kept-map itemOf (λ x. not (belongs (c .args .subscription) x)) (take (c .args .len) (c .args .items .now));
+      order = λ h. ap rising a ∙ rising-kept idOf (λ x. not (belongs (c .args .subscription) x)) 0 (map itemOf (take (c .args .len) xs)) h;
+      after = a;
       bound = omega (arith, c .loop-i .inv .behind);
     }

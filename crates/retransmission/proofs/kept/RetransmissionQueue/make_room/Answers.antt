@@ -1,0 +1,13 @@
+use borrow.Author.Needs.{needs}
+use lib.ListN.{length, length-take}
+use native.Mathlib.Omega.{arith}
+use Prim.Native.Nat.{_<_}
+use Rattle.retransmission.specs.Kept.{keptIn}
+use Rattle.retransmission.proofs.Places.{earlier-goes, none-goes}
+use Rattle.retransmission.proofs.kept.RetransmissionQueue.make_room.Needs as need
+
+pub returns-in-Some : need.returns-in-Some
+returns-in-Some c = record { after = search (needs, earlier-goes); room = search (needs, length-take) }
+
+pub returns-else-self-eq8 : need.returns-else-self-eq8
+returns-else-self-eq8 c = record { after = search (needs, none-goes, length-take); room = search (needs, length-take) }
