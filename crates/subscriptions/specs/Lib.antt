@@ -2,5 +2,5 @@ pub mod Facts
 pub mod Revision
 pub mod Changes
 pub mod Cycle
-pub mod Slots
+pub mod Keys
 pub mod Edges

@@ -1,8 +1,8 @@
-// A subscription's record and its publishing cycle, and the table of the four slots.
+// A subscription's record and its publishing cycle.
 pub mod changes;
 pub mod cycle;
 pub mod edges;
 pub mod figures;
 pub mod revision;
+pub mod row;
 pub mod subscription;
-pub mod table;

@@ -3,18 +3,12 @@ use mathlib.Core.Bool.{false}
 use mathlib.Core.List.{List, map}
 use Prim.Native.Nat.{ℕ}
 use lib.ListN.{take}
 use Rattle.subscriptions.specs.declared.figures.Revised.{Revised}
 use Rattle.subscriptions.specs.declared.figures.Figures.{Figures}
 use Rattle.subscriptions.specs.declared.figures.Phase.the-variants.{Fresh}
 use Rattle.subscriptions.specs.declared.subscription.Subscription.{Subscription}
-use Rattle.subscriptions.specs.declared.table.Table.{Table}
-
--- the figures without the facts on them
-abbrev pub figuresOf : Subscription → Figures
-figuresOf s = s .figures
-
-abbrev pub idOf : Figures → ℕ
-idOf f = f .id
+use Rattle.subscriptions.specs.Keys.{figuresOf}
+use Rattle.subscription_table.specs.declared.table.Table.{Table}
 
 -- the occupied slots, in the order of creation
 abbrev pub slots : Table → List Figures

@@ -2,7 +2,7 @@
 ghost use mathlib.Core.Path.{_≡_};
 ghost use Prim.Native.Nat.{_≤_};
 ghost use lib.ListN.{length};
-use crate::subscription::Subscription;
+use subscriptions::subscription::Subscription;
 
 pub mod methods;
 

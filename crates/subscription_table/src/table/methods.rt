@@ -6,28 +6,12 @@ ghost use lib.Dec.{eqb};
 ghost use lib.ListN.{length, getD, set};
 ghost use Rattle.std.specs.Options.{mapped};
 ghost use Rattle.fifo.specs.Lists.{none, lookup, replaced, without};
-ghost use Rattle.subscriptions.specs.Slots.{slots, blank, figuresOf, idOf};
-ghost use Rattle.subscriptions.specs.declared.figures.Figures.{Figures as PlainFigures};
-use crate::subscription::Subscription;
+ghost use Rattle.subscriptions.specs.Keys.{figuresOf, idOf};
+ghost use Rattle.subscription_table.specs.Slots.{slots, blank};
 use crate::table::Table;
-use fifo::queue::Keyed;
-use tables::Row;
-
-pub impl Keyed for Subscription as SubscriptionKeyed {
-    ghost tag = { λ s. idOf (figuresOf s) };
-
-    fn key(&self) -> u32 {
-        self.figures.id
-    }
-}
-
-pub impl Row for Subscription as SubscriptionRow {
-    ghost Plain = { PlainFigures };
-
-    ghost plain = { figuresOf };
-
-    ghost keyOf = { idOf };
-}
+use subscriptions::row::SubscriptionKeyed;
+use subscriptions::row::SubscriptionRow;
+use subscriptions::subscription::Subscription;
 
 impl Table {
     pub fn new() -> Self

@@ -1,0 +1,2 @@
+// The table of the four subscription slots.
+pub mod table;
