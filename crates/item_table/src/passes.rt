@@ -16,7 +16,7 @@ use items::item::MonitoredItem;
 use sources::source::Source;
 
 // One tick of every item, by rising id.
-pub fn tick_all<S: Source>(items: &mut [MonitoredItem], len: usize, source: &S)
+pub(crate) fn tick_all<S: Source>(items: &mut [MonitoredItem], len: usize, source: &S)
     requires { ⌜ len ≤ length (now items) ⌝ }
     ensures order { λ _. ⌜ (rising (map itemOf (take len (now (items .entry)))) ≡ true → rising (map itemOf (take len (now (items .exit)))) ≡ true) ⌝ }
     ensures after { λ _. ⌜ map itemOf (take len (now (items .exit))) ≡ map (ticked (S·Source .stands (now (source .entry)))) (map itemOf (take len (now (items .entry)))) ⌝ }
@@ -27,7 +27,7 @@ pub fn tick_all<S: Source>(items: &mut [MonitoredItem], len: usize, source: &S)
 }
 
 // Moves the items of all other subscriptions to the front, in their order; how many they are.
-pub fn keep_others(items: &mut [MonitoredItem], len: usize, subscription: u32) -> usize
+pub(crate) fn keep_others(items: &mut [MonitoredItem], len: usize, subscription: u32) -> usize
     requires { ⌜ len ≤ length (now items) ⌝ }
     ensures order { λ r. ⌜ (rising (map itemOf (take len (now (items .entry)))) ≡ true → rising (map itemOf (take r (now (items .exit)))) ≡ true) ⌝ }
     ensures after { λ r. ⌜ map itemOf (take r (now (items .exit))) ≡ others subscription (map itemOf (take len (now (items .entry)))) ⌝ }
@@ -59,7 +59,7 @@ fn waits_after(item: &MonitoredItem, subscription: u32, last: u32) -> bool
 }
 
 // The place of the first item of the subscription that reports something and has an id above `last`.
-pub fn place_after(
+pub(crate) fn place_after(
     items: &[MonitoredItem],
     len: usize,
     subscription: u32,
@@ -78,7 +78,7 @@ pub fn place_after(
 }
 
 // Takes the oldest waiting sample of the item at a place.
-pub fn serve_at(items: &mut [MonitoredItem], i: usize) -> Option<Served>
+pub(crate) fn serve_at(items: &mut [MonitoredItem], i: usize) -> Option<Served>
     requires { ⌜ i < length (now items) ⌝ }
     ensures value { λ r. ⌜ ((d : Item) → r ≡ servedBy (Some (getD (map itemOf (now (items .entry))) i d))) ⌝ }
     ensures after { λ _. ⌜ ((d : Item) → map itemOf (now (items .exit)) ≡ set (map itemOf (now (items .entry))) i (served (getD (map itemOf (now (items .entry))) i d))) ⌝ }
