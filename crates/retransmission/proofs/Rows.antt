@@ -1,25 +1,20 @@
 -- Facts on the rows of kept messages.
 use mathlib.Core.Path.{_≡_, refl, sym, ap, ap₂, _∙_}
-use mathlib.Core.List.{List, [], _∷_, _++_, map}
-use Prim.Native.Nat.{ℕ, _+_, _≤_, _<_}
-use native.Mathlib.Omega.{arith}
-use lib.ListN.{length, take, getD, set, length-take}
+use mathlib.Core.List.{List, [], map}
+use Prim.Native.Nat.{ℕ, _<_}
+use lib.ListN.{take, getD, set}
 use Rattle.std.specs.Options.{mapped}
 use Rattle.std.specs.declared.option.Option.the-variants.{Some, None}
-use Rattle.std.proofs.shelf.Lists.{length-map, map-set, getD-take}
-use Rattle.fifo.specs.Lists.{position, lookup, replaced, without}
-use Rattle.fifo.proofs.Keys.{key-position, lookup-position, lookup-none, lookup-map, position-map, set-position, replaced-none, without-none, without-map, set-taken}
+use Rattle.std.proofs.shelf.Lists.{map-set, getD-take}
+use Rattle.fifo.specs.Lists.{position, replaced}
+use Rattle.fifo.proofs.Keys.{key-position, lookup-position, lookup-none, lookup-map, position-map, set-position, replaced-none, set-taken}
 use Rattle.messages.specs.declared.message.Message.{Message}
 use Rattle.retransmission.specs.declared.kept.Retransmission.{Retransmission}
-use Rattle.retransmission.specs.declared.kept.RetransmissionTable.{RetransmissionTable}
 use Rattle.retransmission.specs.Kept.{keptIn}
 use Rattle.retransmission.specs.Rows.{shown, subscriptionOf, rowWith, rows, keptOf, messagesOf}
 
 abbrev pub key : Retransmission → ℕ
 key r = subscriptionOf (shown r)
-
-pub rows-length : (t : RetransmissionTable) → length (rows t) ≡ t .len
-rows-length t = let f = t .fits in let l = t .long in simp (length-map, length-take) (omega arith)
 
 module _ (id : ℕ) (places : List Retransmission) (n : ℕ) where
   -- the subscription has a row, at i
@@ -49,6 +44,3 @@ module _ (id : ℕ) (places : List Retransmission) (n : ℕ) where
     pub unchanged : (ms : List Message) → map shown (take n places) ≡ replaced subscriptionOf (rowWith id ms) (map shown (take n places))
     unchanged ms =
         sym (replaced-none subscriptionOf id (map shown (take n places)) (rowWith id ms) refl (sym (position-map shown subscriptionOf id (take n places)) ∙ sym e))
-
-    pub unremoved : map shown (take n places) ≡ without subscriptionOf id (map shown (take n places))
-    unremoved = sym (ap (map shown) (without-none key id (take n places) (sym e))) ∙ without-map shown subscriptionOf id (take n places)

@@ -1,13 +1,11 @@
 -- The messages kept for retransmission.
 use mathlib.Core.Bool.{cond}
-use mathlib.Core.List.{List, [], _∷_, _++_, map}
+use mathlib.Core.List.{List, [], _∷_, _++_}
 use Prim.Native.Nat.{ℕ}
 use lib.Dec.{eqb}
 use lib.ListN.{length, take}
 use Rattle.std.specs.Options.{isSome}
-use Rattle.std.specs.declared.option.Option.{Option}
-use Rattle.std.specs.declared.option.Option.the-variants.{Some, None}
-use Rattle.fifo.specs.Lists.{rest, lookup, replaced, without}
+use Rattle.fifo.specs.Lists.{rest, lookup, without}
 use Rattle.messages.specs.declared.message.Message.{Message}
 use Rattle.retransmission.specs.declared.kept.RetransmissionQueue.{RetransmissionQueue}
 use Rattle.messages.specs.Messages.{numberOf}

@@ -3,7 +3,6 @@ use mathlib.Core.Bool.{false}
 use mathlib.Core.List.{List, map}
 use Prim.Native.Nat.{ℕ}
 use lib.ListN.{take}
-use Rattle.subscriptions.specs.declared.figures.Revised.{Revised}
 use Rattle.subscriptions.specs.declared.figures.Figures.{Figures}
 use Rattle.subscriptions.specs.declared.figures.Phase.the-variants.{Fresh}
 use Rattle.subscriptions.specs.declared.subscription.Subscription.{Subscription}

@@ -1,7 +1,7 @@
 -- Three cycles that find no request, with a keep-alive count of 1 and a lifetime count of 3.
 use mathlib.Core.Path.{_≡_, ap, _∙_}
 use mathlib.Core.Bool.{true, false}
-use mathlib.Core.List.{List, [], _∷_}
+use mathlib.Core.List.{[], _∷_}
 use lib.IntN.{pos}
 use Rattle.subscriptions.specs.declared.figures.Figures.{Figures}
 use Rattle.subscriptions.specs.declared.figures.Outcome.{Outcome}

@@ -1,4 +1,5 @@
--- The publishing cycle, in five steps.
+-- The publishing cycle, in five steps. Of the fifth it tells the first message or the place on the late list; messages after
+-- the first are up to the caller.
 use mathlib.Core.Bool.{Bool, true, false, cond, _&&_, _||_}
 use Prim.Native.Nat.{_+_}
 use lib.Dec.{leb}

@@ -5,7 +5,9 @@ use crate::figures::Phase;
 use crate::subscription::Subscription;
 
 impl Subscription {
-    // One publishing cycle, which finds a request queued or not, and something waiting or not.
+    // One publishing cycle, which finds a request queued or not, and something waiting or not. Where a message comes of it,
+    // the record is as that message leaves it. Off the late list idle is below the keep-alive count, so that only a late
+    // subscription can end.
     pub fn cycle(&mut self, request: bool, waiting: bool) -> Outcome
         ensures after { λ _. ⌜ now (self .exit) .figures ≡ cycle request waiting (now (self .entry) .figures) .after ⌝ }
         ensures value { λ r. ⌜ r ≡ cycle request waiting (now (self .entry) .figures) .outcome ⌝ }

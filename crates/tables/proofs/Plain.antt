@@ -1,13 +1,13 @@
 -- The plain data of the records in use, where a record's key is the key of its data.
-use mathlib.Core.Path.{_≡_, refl, sym, ap, _∙_}
-use mathlib.Core.List.{List, [], _∷_, _++_, map}
-use Prim.Native.Nat.{ℕ, _+_, _-_, _≤_, _<_}
+use mathlib.Core.Path.{_≡_, sym, ap, _∙_}
+use mathlib.Core.List.{List, map}
+use Prim.Native.Nat.{ℕ, _-_, _≤_, _<_}
 use native.Mathlib.Omega.{arith}
 use lib.ListN.{length, take, getD, set, length-take}
 use Rattle.std.specs.Holes.{removed}
 use Rattle.std.specs.Options.{mapped}
 use Rattle.std.specs.declared.option.Option.the-variants.{Some, None}
-use Rattle.std.proofs.shelf.Lists.{length-map, map-set, map-push, getD-map, getD-take}
+use Rattle.std.proofs.shelf.Lists.{length-map, map-set, getD-map, getD-take}
 use Rattle.fifo.specs.Lists.{position, lookup, replaced, without}
 use Rattle.fifo.proofs.Keys.{lookup-position, lookup-none, lookup-map, position-map, set-position, replaced-none, removed-position, removed-map, without-none, set-taken}
 

@@ -48,7 +48,7 @@ impl Numbers {
     }
 
     // The number at place `i`.
-    pub fn get(&self, i: usize) -> Option<u32>
+    fn get(&self, i: usize) -> Option<u32>
         ensures { λ r. ⌜ r ≡ number-at (items (now (self .entry))) i ⌝ }
     {
         self.as_slice().get(i).copied()

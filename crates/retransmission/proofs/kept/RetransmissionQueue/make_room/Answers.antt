@@ -1,8 +1,5 @@
 use borrow.Author.Needs.{needs}
-use lib.ListN.{length, length-take}
-use native.Mathlib.Omega.{arith}
-use Prim.Native.Nat.{_<_}
-use Rattle.retransmission.specs.Kept.{keptIn}
+use lib.ListN.{length-take}
 use Rattle.retransmission.proofs.Places.{earlier-goes, none-goes}
 use Rattle.retransmission.proofs.kept.RetransmissionQueue.make_room.Needs as need
 

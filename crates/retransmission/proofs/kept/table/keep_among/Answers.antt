@@ -1,5 +1,4 @@
 use borrow.Author.Needs.{needs}
-use mathlib.Core.Path.{sym}
 use Rattle.retransmission.specs.Kept.{keeping}
 use Rattle.retransmission.proofs.Rows.{changed-at, unchanged}
 use Rattle.retransmission.proofs.kept.table.keep_among.Needs as need
