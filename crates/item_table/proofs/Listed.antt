@@ -1,11 +1,10 @@
 -- The places of the table and the list of items that they stand for.
 use mathlib.Core.Path.{_≡_, refl, sym, ap, _∙_}
 use mathlib.Core.Bool.{Bool, true, false, cond, not}
-use mathlib.Core.List.{List, [], _∷_, _++_, map}
-use Prim.Native.Nat.{ℕ, zero, suc, _+_, _-_, _≤_, _<_}
+use mathlib.Core.List.{List, [], _∷_, map}
+use Prim.Native.Nat.{ℕ, _-_, _≤_, _<_}
 use native.Mathlib.Omega.{arith}
-use lib.Dec.{eqb}
-use lib.ListN.{length, take, drop, getD, set, length-take}
+use lib.ListN.{length, take, getD, set, length-take}
 use Rattle.std.specs.shelf.Lists.{kept-by}
 use Rattle.std.specs.declared.option.Option.the-variants.{Some, None}
 use Rattle.std.proofs.shelf.Lists.{length-map, getD-map, getD-take, getD-default, map-set, take-map}
@@ -17,7 +16,7 @@ use Rattle.std.specs.Options.{mapped}
 use Rattle.item_table.specs.Turn.{serving, servedBy}
 use Rattle.items.specs.Keys.{idOfItem}
 use Rattle.items.specs.Keys.{idOf}
-use Rattle.item_table.specs.Table.{itemsOf, belongs}
+use Rattle.item_table.specs.Table.{itemsOf}
 use Rattle.item_table.specs.declared.table.ItemTable.{ItemTable}
 
 pub items-length : (t : ItemTable) → length (itemsOf t) ≡ t .len

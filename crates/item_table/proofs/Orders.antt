@@ -1,13 +1,13 @@
 -- Lists by rising key stay so.
 use mathlib.Core.Path.{_≡_, refl, sym, ap, _∙_}
-use mathlib.Core.Bool.{Bool, true, false, cond, not}
+use mathlib.Core.Bool.{Bool, true, false, cond}
 use mathlib.Core.List.{List, [], _∷_, _++_, map}
 use Prim.Native.Nat.{ℕ, zero, suc, _≤_, _<_}
 use native.Mathlib.Omega.{arith}
 use borrow.Author.Tests.{ltb-true, lt-ltb, eqb-true, eq-eqb, ne-eqb}
 use lib.ListN.{length, getD}
 use Rattle.std.specs.Options.{mapped}
-use Rattle.std.specs.declared.option.Option.the-variants.{Some, None}
+use Rattle.std.specs.declared.option.Option.the-variants.{Some}
 use lib.Dec.{eqb, ltb, leb}
 use Rattle.std.specs.shelf.Lists.{kept-by}
 use Rattle.fifo.specs.Lists.{position, replaced, without}
@@ -15,7 +15,7 @@ use Rattle.sources.specs.declared.source.Standing.{Standing}
 use Rattle.sources.specs.Standings.{sampleOf}
 use Rattle.items.specs.declared.item.Mode.{Mode}
 use Rattle.items.specs.declared.item.Mode.the-variants.{Disabled, Sampling, Reporting}
-use Rattle.items.specs.Item.{Item, ticked, byMode, counted, offered, counting, accepts}
+use Rattle.items.specs.Item.{Item, ticked, byMode, counted, accepts}
 use Rattle.items.specs.Keys.{idOf}
 use Rattle.item_table.specs.Rising.{risingBy, rising}
 use Rattle.item_table.specs.Table.{allBelow}

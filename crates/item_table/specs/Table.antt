@@ -8,7 +8,6 @@ use Rattle.std.specs.shelf.Lists.{kept-by}
 use Rattle.std.specs.declared.option.Option.{Option}
 use Rattle.std.specs.declared.option.Option.the-variants.{Some, None}
 use Rattle.fifo.specs.Lists.{lookup}
-use Rattle.items.specs.declared.item.MonitoredItem.{MonitoredItem}
 use Rattle.items.specs.Item.{Item, itemOf}
 use Rattle.items.specs.Keys.{idOf}
 use Rattle.item_table.specs.declared.table.ItemTable.{ItemTable}

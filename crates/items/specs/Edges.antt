@@ -3,10 +3,9 @@ use Prim.Native.Nat.{ℕ}
 use mathlib.Core.Path.{_≡_}
 use mathlib.Core.List.{List, [], _∷_}
 use mathlib.Core.Bool.{Bool, true, false}
-use lib.IntN.{ℤ, pos}
+use lib.IntN.{pos}
 use Rattle.values.specs.declared.value.Kind.the-variants as kind
 use Rattle.values.specs.declared.value.Value.the-variants.{Int32}
-use Rattle.values.specs.declared.value.Sample.{Sample}
 use Rattle.values.specs.declared.checked.CheckedFilter.{CheckedFilter}
 use Rattle.values.specs.Beyond.{exactly}
 use Rattle.values.specs.Edges.{withAbsolute, int}

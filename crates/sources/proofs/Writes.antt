@@ -8,7 +8,6 @@ use Rattle.std.specs.declared.option.Option.the-variants.{Some}
 use Rattle.fifo.specs.Lists.{lookup}
 use Rattle.sources.specs.declared.rows.Row.{Row}
 use Rattle.sources.specs.declared.rows.Expiry.{Expiry}
-use Rattle.sources.specs.declared.source.Standing.{Standing}
 use Rattle.sources.specs.declared.source.Standing.the-variants.{Known}
 use Rattle.sources.specs.Rows.{nodeOfRow, nodeOfExpiry}
 use Rattle.sources.specs.Table.{put}

@@ -11,7 +11,6 @@ use Rattle.std.specs.declared.option.Option.the-variants.{Some, None}
 use Rattle.std.specs.declared.result.Result.{Result}
 use Rattle.std.specs.declared.result.Result.the-variants.{Ok, Err}
 use Rattle.values.specs.declared.value.Kind.the-variants as kind
-use Rattle.values.specs.declared.value.Sample.{Sample}
 use Rattle.values.specs.declared.value.Value.the-variants.{Int32}
 use Rattle.fifo.specs.Lists.{lookup}
 use Rattle.sources.specs.declared.fault.SourceFault.{SourceFault}

@@ -2,7 +2,6 @@
 use mathlib.Core.Path.{_≡_}
 use mathlib.Core.Bool.{true}
 use lib.IntN.{pos}
-use Rattle.values.specs.declared.value.Kind.{Kind}
 use Rattle.values.specs.declared.value.Sample.{Sample}
 use Rattle.values.specs.declared.value.Value.the-variants.{Empty}
 use Rattle.values.specs.Kinds.{fitting}

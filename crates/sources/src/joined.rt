@@ -4,7 +4,6 @@ ghost use Prim.Native.Nat.{_-_};
 ghost use lib.Dec.{ltb};
 ghost use Rattle.sources.specs.Standings.{sampleOf};
 ghost use Rattle.sources.specs.Image.{imageRows, imageStands};
-ghost use Rattle.sources.specs.Certificates.{certificateRows, todayOf, certificatesStand};
 ghost use Rattle.sources.specs.Plant.{plantStands};
 use crate::certificates::Certificates;
 use crate::certificates::methods::CertificatesSource;

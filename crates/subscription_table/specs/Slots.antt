@@ -1,11 +1,9 @@
 -- The table of subscriptions.
 use mathlib.Core.Bool.{false}
 use mathlib.Core.List.{List, map}
-use Prim.Native.Nat.{ℕ}
 use lib.ListN.{take}
 use Rattle.subscriptions.specs.declared.figures.Figures.{Figures}
 use Rattle.subscriptions.specs.declared.figures.Phase.the-variants.{Fresh}
-use Rattle.subscriptions.specs.declared.subscription.Subscription.{Subscription}
 use Rattle.subscriptions.specs.Keys.{figuresOf}
 use Rattle.subscription_table.specs.declared.table.Table.{Table}
 

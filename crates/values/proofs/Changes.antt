@@ -1,25 +1,20 @@
 -- The two laws of changes, by the kinds of value.
 use mathlib.Core.Path.{_≡_, refl, sym, ap, _∙_}
-use mathlib.Core.Bool.{Bool, true, false, not, cond, _||_, Bool·beq}
-use Prim.Native.Nat.{ℕ}
+use mathlib.Core.Bool.{Bool, true, false, not, cond, _||_}
 use native.Mathlib.Omega.{arith}
 use lib.Dec.{eqb}
 use lib.IntN.{ℤ, pos, negsuc, natAbs, _-ℤ_}
 use lib.Ieee.{Float, lt}
 use borrow.Author.Tests.{eq-eqb}
-use borrow.Author.Needs.{needs}
 use Rattle.std.specs.Floats.{finite}
 use Rattle.std.proofs.shelf.Ways.{tells}
 use Rattle.std.proofs.shelf.Signed.{ints}
 use Rattle.values.specs.declared.value.Value.{Value}
 use Rattle.values.specs.declared.value.Value.the-variants.{Empty, Boolean, Int32, Double}
-use Rattle.values.specs.declared.value.Sample.{Sample}
 use Rattle.values.specs.declared.filter.Trigger.{Trigger}
 use Rattle.values.specs.declared.filter.Trigger.the-variants.{Status, StatusValue, StatusValueTimestamp}
 use Rattle.values.specs.declared.filter.Deadband.{Deadband}
 use Rattle.values.specs.declared.filter.Deadband.the-variants.{None, Absolute}
-use Rattle.values.specs.declared.filter.Filter.{Filter}
-use Rattle.values.specs.declared.checked.CheckedFilter.{CheckedFilter}
 use Rattle.values.specs.Beyond.{exactly, NotBelowZero, beyondInt}
 use Rattle.values.specs.Filters.{allowed, width, widthOf}
 use Rattle.values.specs.Change.{eqZ, valueChanged, timeChanged, triggered, changed}

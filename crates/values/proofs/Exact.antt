@@ -1,14 +1,14 @@
 -- The difference of two 32-bit integers is exact in binary64.
 use mathlib.Core.Path.{_≡_, refl, sym, _∙_, ap, subst}
-use mathlib.Core.Bool.{Bool, true, false, not, cond, _||_, _&&_, Bool·beq}
-use mathlib.Core.Logic.{_⊎_, inl, inr}
+use mathlib.Core.Bool.{Bool, true, false, not, cond, _&&_}
+use mathlib.Core.Logic.{inl, inr}
 use Prim.Native.Nat.{ℕ, zero, suc, _+_, _-_, _*_, _^_, _<_, _≤_}
 use native.Mathlib.Nat.{mul-one, mul-right-comm, mul-assoc, mul-comm, zero-mul, add-mul, mul-pos, mul-le-mul-right, mul-lt-mul-of-pos-right, mul-sub}
 use native.Mathlib.Omega.{arith}
 use lib.Dec.{ltb, lit<}
 use lib.IntN.{ℤ, pos, negsuc, natAbs, _-ℤ_}
 use lib.Signed.{ltZ}
-use lib.Ieee.{Float, nan, inf, fin, Format, binary64, lt, sub, sum, round, ofInt, neg, below, up, down, prec}
+use lib.Ieee.{Float, nan, inf, fin, Format, binary64, lt, sub, sum, round, ofInt, neg, below, up, down}
 use lib.Ieee.Exact.{HasValue}
 use lib.Ieee.Back.{round-whole}
 use lib.Ieee.Scale.{round-same}
@@ -18,7 +18,7 @@ use borrow.Author.Tests.{lt-ltb, le-ltb}
 use Rattle.std.proofs.shelf.Tests.{cases-lt}
 use Rattle.std.proofs.shelf.Ways.{tells}
 use Rattle.std.proofs.shelf.Signed.{ints}
-use Rattle.values.specs.Beyond.{exactly, beyondInt}
+use Rattle.values.specs.Beyond.{beyondInt}
 
 sub-mul : (a b c : ℕ) → (a - b) * c ≡ a * c - b * c
 sub-mul a b c = mul-comm (a - b) c ∙ mul-sub c a b ∙ (λ i. mul-comm c a i - mul-comm c b i)

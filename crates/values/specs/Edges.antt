@@ -1,7 +1,7 @@
 -- The figures at the edges of what is a change.
 use Prim.Native.Nat.{ℕ}
 use mathlib.Core.Path.{_≡_}
-use mathlib.Core.Bool.{Bool, true, false}
+use mathlib.Core.Bool.{true, false}
 use lib.IntN.{ℤ, pos, negsuc}
 use lib.Ieee.{Float, nan, fin}
 use Rattle.values.specs.declared.value.Value.{Value}

@@ -1,6 +1,6 @@
 -- Filters: codes, and which deadband values are allowed.
 use Prim.Native.Nat.{ℕ}
-use mathlib.Core.Bool.{Bool, true, false, cond, not, _&&_}
+use mathlib.Core.Bool.{Bool, true, false, cond, not}
 use lib.Dec.{eqb}
 use lib.Ieee.{Float, lt}
 use Rattle.std.specs.Floats.{finite}

@@ -1,5 +1,5 @@
 use mathlib.Core.Path.{_≡_, refl, sym, ap, subst, _∙_}
-use mathlib.Core.Bool.{Bool, true, false, cond}
+use mathlib.Core.Bool.{true, false, cond}
 use lib.IntN.{pos}
 use lib.Ieee.{lt}
 use Rattle.std.specs.declared.option.Option.the-variants.{Some}

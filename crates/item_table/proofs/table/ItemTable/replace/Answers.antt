@@ -1,6 +1,5 @@
 use mathlib.Core.Path.{ap, _∙_}
 use borrow.Author.Needs.{needs}
-use Rattle.items.specs.Item.{itemOf}
 use Rattle.items.specs.Keys.{idOf}
 use Rattle.item_table.specs.Rising.{rising}
 use Rattle.item_table.specs.Table.{itemsOf}
