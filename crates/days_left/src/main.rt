@@ -1,5 +1,7 @@
 // The days left of each node's certificate, for a renewal job. Arguments: today's day, and the number of days up to
 // which a certificate is to be renewed. Input: lines of a node and the day on which its certificate ends.
+#![tactic(auto)]
+
 use anyhow::anyhow;
 use renewals::entry::enter_line;
 use renewals::problem::Problem;

@@ -1,4 +1,6 @@
 // The figures at the edges, of all layers in one place.
+#![tactic(auto)]
+
 ghost use Rattle.std.specs.Prelude.{◌≡◌, true, false, ◌∷◌, []};
 ghost use Rattle.values.specs.Edges.{EdgeFigures as ChangeFigures};
 ghost use Rattle.items.specs.Edges.{EdgeFigures as ItemFigures};

@@ -1,2 +1,4 @@
 // The engine as a host has it.
+#![tactic(auto)]
+
 pub mod engine;

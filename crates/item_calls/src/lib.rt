@@ -1,4 +1,6 @@
 // The calls on monitored items.
+#![tactic(auto)]
+
 pub mod create_item;
 pub mod delete_item;
 pub mod modify_item;

@@ -1,4 +1,6 @@
 // The monitored item: its settings and mode, its waiting samples, sampling, modification and modes.
+#![tactic(auto)]
+
 pub mod edges;
 pub mod fault;
 pub mod item;

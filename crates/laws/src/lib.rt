@@ -1,2 +1,4 @@
 // Runs of calls, and the laws that every run obeys.
+#![tactic(auto)]
+
 pub mod laws;

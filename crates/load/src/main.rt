@@ -1,5 +1,7 @@
 // A fixed load for measuring: four subscriptions with eight items each over a process image whose values rise at random.
 // Argument: the number of ticks. Prints how many responses and notifications the ticks sent, and a checksum of them.
+#![tactic(auto)]
+
 use answers::acknowledgement::{Acknowledgement, AcknowledgementResult};
 use answers::fault::ServiceFault;
 use anyhow::anyhow;

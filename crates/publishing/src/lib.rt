@@ -1,3 +1,5 @@
 // The publishing cycles of a tick.
+#![tactic(auto)]
+
 mod cycle;
 pub mod tick;

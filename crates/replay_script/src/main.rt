@@ -1,4 +1,6 @@
 // Runs a script of calls, one on a line of standard input, and prints what each call returned and wrote.
+#![tactic(auto)]
+
 mod lists;
 mod output;
 mod session;

@@ -1,3 +1,5 @@
 // Publish: acknowledgements, then the request.
+#![tactic(auto)]
+
 pub mod publish;
 mod request;

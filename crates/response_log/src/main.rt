@@ -1,5 +1,7 @@
 // The responses to a short fixed run of the engine, one on a line: kind, handle, subscription, sequence number, more and the
 // number of notifications.
+#![tactic(auto)]
+
 use answers::fault::ServiceFault;
 use anyhow::anyhow;
 use messages::response::Response;

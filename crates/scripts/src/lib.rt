@@ -1,4 +1,6 @@
 // A script for the subscription engine: one call on a line.
+#![tactic(auto)]
+
 mod acknowledgements;
 mod arguments;
 pub mod command;

@@ -1,2 +1,4 @@
 // A message of a subscription.
+#![tactic(auto)]
+
 pub mod message;

@@ -1,1 +1,2 @@
 // Every step keeps what holds of the engine's state.
+#![tactic(auto)]

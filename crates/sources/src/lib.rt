@@ -1,4 +1,6 @@
 // Sample sources: the process image, the certificates, and two sources joined into one.
+#![tactic(auto)]
+
 pub mod certificates;
 pub mod fault;
 pub mod image;

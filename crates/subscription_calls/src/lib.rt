@@ -1,4 +1,6 @@
 // The calls on subscriptions.
+#![tactic(auto)]
+
 pub mod create_subscription;
 pub mod delete_subscription;
 pub mod modify_subscription;

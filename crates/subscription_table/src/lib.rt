@@ -1,2 +1,4 @@
 // The table of the four subscription slots.
+#![tactic(auto)]
+
 pub mod table;

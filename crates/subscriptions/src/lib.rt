@@ -1,4 +1,6 @@
 // A subscription's record and its publishing cycle.
+#![tactic(auto)]
+
 pub mod changes;
 pub mod cycle;
 pub mod edges;

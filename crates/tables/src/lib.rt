@@ -1,4 +1,6 @@
 // Tables of records that a model sees without their facts: the first `len` places of a slice, each record with a key.
+#![tactic(auto)]
+
 ghost use Rattle.std.specs.Prelude.{◌≡◌, ℕ, ◌+◌, ◌<◌, ◌≤◌, [], ◌∷◌, ◌++◌, map, length, take, slice_index_or, slice_set};
 ghost use Rattle.std.specs.Option.{option_map};
 ghost use Rattle.fifo.specs.Lists.{lookup, replaced, without};

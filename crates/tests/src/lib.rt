@@ -1,4 +1,6 @@
 // Examples of what the layers do, run as tests. What holds in every case is proved in the crates themselves.
+#![tactic(auto)]
+
 #[cfg(test)]
 mod changes;
 #[cfg(test)]

@@ -1,4 +1,6 @@
 // Values, samples, filters, and what is a change between two samples.
+#![tactic(auto)]
+
 pub mod change;
 pub mod check;
 pub mod checked;
