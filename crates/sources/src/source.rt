@@ -24,7 +24,7 @@ pub trait Source {
 
 // The sample that the source shows for a node; of an unknown node an empty value with Bad_NodeIdUnknown.
 pub fn sampled<S: Source>(source: &S, node: u32) -> Sample
-    ensures { result ≡ sample_of (stands source.now node) }
+    ensures { result ≡ sample_of (S.Source.stands source.now node) }
 {
     match source.query(node) {
         Standing::Known(_, sample) => sample,

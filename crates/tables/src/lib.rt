@@ -17,7 +17,7 @@ pub trait Row: Keyed {
     ghost key_of: { Plain → ℕ };
 
     // The record's key is the key of its data.
-    ghost keyed: { (r : Self) → tag r ≡ key_of (plain r) };
+    ghost keyed: { (r : Self) → Self.Keyed.tag r ≡ key_of (plain r) };
 }
 
 // The places in use.

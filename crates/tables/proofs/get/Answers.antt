@@ -3,13 +3,13 @@ use Rattle.std.specs.Option.{option_map}
 use Rattle.tables.proofs.Plain.{found, missing}
 use Rattle.tables.proofs.get.Goals as goal
 
-pub returns-in-err-place : goal.returns-in-err-place
-returns-in-err-place g c =
-    ap (option_map (λ x. g.T.Row.plain x.now)) c.from-residual.ensures
-    ∙ missing g.T.Row.plain c.args.places.now c.args.len g.T.Row.keyOf g.T.Keyed.tag g.met.T.Row.keyed c.args.key c.in-err-place.ensures.value
+pub returns-in_err-place : goal.returns-in_err-place
+returns-in_err-place g c =
+    ap (option_map (λ x. g.T.Row.plain x.now)) c.from_residual.ensures
+    ∙ missing g.T.Row.plain c.args.places.now c.args.len g.T.Row.key_of g.T.Keyed.tag g.met.T.Row.keyed c.args.key c.in_err-place.ensures.value
 
 pub returns : goal.returns
 returns g c =
-    let here = c.in-ok-place.ensures in
-    found g.T.Row.plain c.args.places.now c.args.len g.T.Row.keyOf g.T.Keyed.tag g.met.T.Row.keyed c.args.key
-    c.in-ok-place.place c.index-places-place.result here.bound c.index-places-place.is here.value
+    let here = c.in_ok-place.ensures in
+    found g.T.Row.plain c.args.places.now c.args.len g.T.Row.key_of g.T.Keyed.tag g.met.T.Row.keyed c.args.key
+    c.in_ok-place.place c.index-places-place.result here.bound c.index-places-place.is here.value

@@ -2,8 +2,8 @@ use Rattle.std.proofs.Common.{◌<◌, length, arith, rules}
 use Rattle.tables.proofs.Plain.{plain_length, plain_put}
 use Rattle.tables.proofs.put.Goals as goal
 
-pub offset-bounds-places-i : goal.offset-bounds-places-i
-offset-bounds-places-i g c =
+pub offset_bounds-places-i : goal.offset_bounds-places-i
+offset_bounds-places-i g c =
     let l : c.args.i < length c.args.places.now = omega (arith, plain_length g.T.Row.plain c.args.places.now c.args.len c.requires.fits) in
     search rules
 

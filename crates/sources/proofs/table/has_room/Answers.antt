@@ -4,5 +4,5 @@ use Rattle.sources.proofs.table.has_room.Goals as goal
 
 pub returns : goal.returns
 returns g c =
-    c.is-some.ensures ∙ ap is_some c.find.ensures.value
+    c.is_some.ensures ∙ ap is_some c.find.ensures.value
     ∙ room_full g.T.Keyed.tag c.args.node (take c.args.count c.args.rows.now) (simp length-take (omega arith))

@@ -4,8 +4,8 @@ use Rattle.fifo.proofs.Keys.{set_position, set_taken}
 use Rattle.sources.specs.Puts.{put_found, put_new, room_new}
 use Rattle.sources.proofs.table.put_row.Goals as goal
 
-pub offset-bounds-rows-i : goal.offset-bounds-rows-i
-offset-bounds-rows-i g c = let l : c.in-Some.i < length c.args.rows.now = omega (arith, c.in-Some.ensures.bound) in search rules
+pub offset_bounds-rows-i : goal.offset_bounds-rows-i
+offset_bounds-rows-i g c = let l : c.in-Some.i < length c.args.rows.now = omega (arith, c.in-Some.ensures.bound) in search rules
 
 pub push-requires : goal.push-requires
 push-requires g c =

@@ -4,8 +4,8 @@ use Rattle.retransmission.specs.Kept.{kept_in}
 use Rattle.retransmission.proofs.Places.{present, absent}
 use Rattle.retransmission.proofs.kept.RetransmissionQueue.acknowledge.Goals as goal
 
-pub returns-in-default : goal.returns-in-default
-returns-in-default c = record { value = search (rules, absent); after = search (rules, without_none) }
+pub returns-in_default : goal.returns-in_default
+returns-in_default c = record { value = search (rules, absent); after = search (rules, without_none) }
 
 pub returns : goal.returns
 returns c =

@@ -4,9 +4,9 @@ use Rattle.messages.specs.Messages.{number_of}
 use Rattle.retransmission.proofs.Rows.{kept_at, kept_none, changed_at, unchanged}
 use Rattle.retransmission.proofs.kept.table.acknowledge_among.Goals as goal
 
-pub returns-in-default : goal.returns-in-default
-returns-in-default c =
-    let none = kept_none c.args.subscription c.args.places.now c.args.len c.in-default.ensures.value in
+pub returns-in_default : goal.returns-in_default
+returns-in_default c =
+    let none = kept_none c.args.subscription c.args.places.now c.args.len c.in_default.ensures.value in
     record { value = sym (ap (λ ms. is_some (lookup number_of c.args.number ms)) none); after = search (rules, unchanged) }
 
 pub returns : goal.returns

@@ -9,5 +9,5 @@ returns-in-Some c =
     changed_at c.args.subscription c.args.places.now c.args.len c.in-Some.i found.bound found.value
     c.index-places-i.result c.keep.new.self (keeping c.args.message.now) c.keep.ensures
 
-pub returns-in-default : goal.returns-in-default
-returns-in-default c = search (rules, unchanged)
+pub returns-in_default : goal.returns-in_default
+returns-in_default c = search (rules, unchanged)

@@ -6,15 +6,15 @@ use Rattle.sources.specs.Puts.{every_put}
 use Rattle.sources.proofs.Writes.{written_stands}
 use Rattle.sources.proofs.image.ProcessImage.put.Goals as goal
 
-pub invariant-of-self : goal.invariant-of-self
-invariant-of-self c =
+pub invariant_of-self : goal.invariant_of-self
+invariant_of-self c =
     let s = c.args.self.now in
-    let f : every row_fits (take c.put-row-self.result c.put-row-self.new.rows) ≡ true =
-    ap (every row_fits) c.put-row-self.ensures.after ∙ every_put node_of_row row_fits c.args.row (image_rows s) s.fit c.requires.fits in
-    (c.put-row-self.ensures.bound, (search rules, (f, tt)))
+    let f : every row_fits (take c.put_row-self.result c.put_row-self.new.rows) ≡ true =
+    ap (every row_fits) c.put_row-self.ensures.after ∙ every_put node_of_row row_fits c.args.row (image_rows s) s.fit c.requires.fits in
+    record { few = c.put_row-self.ensures.bound; whole = search rules; fit = f }
 
 pub returns : goal.returns
 returns c =
     let s = c.args.self.now in
-    let r = c.put-row-self.ensures.after in
+    let r = c.put_row-self.ensures.after in
     record { rows = r; stands = λ n. ap (λ l. image_stands l n) r ∙ written_stands c.args.row (image_rows s) n }

@@ -4,6 +4,6 @@ use Rattle.std.proofs.lemmas.Bool.Decides.{nat_tests}
 use Rattle.values.proofs.filter.Deadband.allows.Goals as goal
 
 -- the literal 0.0 is `of_bits binary64 0`, which computes once it is unfolded
-pub returns-else-not-is-finite : goal.returns-else-not-is-finite
+pub returns-else-not-is_finite : goal.returns-else-not-is_finite
 unfolding of_bits
-returns-else-not-is-finite c = grind (arith, nat_tests)
+returns-else-not-is_finite c = grind (arith, nat_tests)
