@@ -1,6 +1,6 @@
 -- A cycle in which a subscription is due ends with its message sent or with it on the late list.
 use Rattle.std.proofs.Common.{◌≡◌, ℕ, Bool, true, false, cond, eqb, ltb, List, [], ◌∷◌, ◌++◌, sym, refl, ap, ◌∙◌, subst, inl, inr, append_assoc}
-use Rattle.std.specs.List.{AllByRecursion as All}
+use Rattle.std.specs.List.{AllByRecursion}
 use Rattle.std.proofs.lemmas.Bool.{true≢false, eq-eqb}
 use Rattle.sources.specs.declared.source.Standing.{Standing}
 use Rattle.subscriptions.specs.declared.figures.Figures.{Figures}
@@ -71,7 +71,7 @@ shared_append [] gs q = refl
 shared_append (f ∷ fs) gs q = shared_append fs gs (passes f q).shared
 
 -- what is so of an element between others
-all_at : {X : Type 0} (P : X → Type 0) (xs : List X) (y : X) (zs : List X) → All P (xs ++ y ∷ zs) → P y
+all_at : {X : Type 0} (P : X → Type 0) (xs : List X) (y : X) (zs : List X) → AllByRecursion P (xs ++ y ∷ zs) → P y
 all_at P [] y zs a = a.0
 all_at P (x ∷ xs) y zs a = all_at P xs y zs a.1
 
@@ -98,8 +98,8 @@ heard_passed : (stands : ℕ → Standing) (s : State) → Published s → (fs :
 heard_passed stands s p fs f gs e l r d =
     let q = shared_of (sampled_state stands s) in
     let u = (passes_all fs q).shared in
-    let b = all_at Bounded fs f gs (subst (All Bounded) e p.bounded) in
-    let w = all_at (Placed s.late) fs f gs (subst (All (Placed s.late)) e p.placed) in
+    let b = all_at Bounded fs f gs (subst (AllByRecursion Bounded) e p.bounded) in
+    let w = all_at (Placed s.late) fs f gs (subst (AllByRecursion (Placed s.late)) e p.placed) in
     let h =
     heard_turn f u (passes f u) (passing f u b)
     (λ z. subst (In f.id) (sym (all_grow fs q)) (in_left f.id s.late (joined_ids (passes_all fs q).events) (w.1 z))) l r d in

@@ -8,7 +8,7 @@ use Rattle.subscriptions.specs.declared.figures.Figures.{Figures}
 use Rattle.subscriptions.specs.Keys.{id_of}
 use Rattle.items.specs.declared.item.Mode.{Mode}
 use Rattle.items.specs.declared.item.Mode.TheVariants.{Disabled, Sampling, Reporting}
-use Rattle.items.specs.Keys.{id_of as itemId}
+use Rattle.items.specs.Keys.{id_of as item_id}
 use Rattle.messages.specs.declared.message.Message.{Message}
 use Rattle.messages.specs.declared.response.ResponseKind.TheVariants.{NoSubscription}
 use Rattle.messages.specs.Responses.{refusing}
@@ -113,7 +113,7 @@ module _ (s : State) where
   mode_effect id item mode t (cases.no_item e) = refuses _
   mode_effect id item mode t (cases.bad e c) = refuses _
   mode_effect id item mode t (cases.sets f x m e i c) =
-      record { handles = unchanged.0; late = unchanged.1 ∙ ap (λ l. s.late ++ l) (sym (starting_joins_none x.mode m (itemId x))) }
+      record { handles = unchanged.0; late = unchanged.1 ∙ ap (λ l. s.late ++ l) (sym (starting_joins_none x.mode m (item_id x))) }
 
   republish_effect : (id n : ℕ) (t : Step Message) → cases.Republishing s id n t → Effect s (Republish id n) (done t)
   republish_effect id n t (cases.unknown e) = refuses _

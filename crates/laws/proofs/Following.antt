@@ -1,6 +1,6 @@
 -- The items of a list against the events: turns, messages, the pass over the subscriptions, and the sampling pass.
 use Rattle.std.proofs.Common.{◌≡◌, ℕ, zero, suc, ◌<◌, Bool, true, false, cond, not, eqb, ltb, List, [], ◌∷◌, ◌++◌, map, Some, None, Option, sym, refl, ap, ◌∙◌, subst, arith}
-use Rattle.std.specs.List.{AllByRecursion as All}
+use Rattle.std.specs.List.{AllByRecursion}
 use Rattle.std.specs.Option.{option_map}
 use Rattle.fifo.specs.Lists.{none, first, replaced}
 use Rattle.values.specs.declared.value.Sample.{Sample}
@@ -14,7 +14,7 @@ use Rattle.subscriptions.specs.Changes.{messaged, runs, counted_down}
 use Rattle.subscriptions.specs.Cycle.{cycle}
 use Rattle.items.specs.declared.waiting.Waiting.{Waiting}
 use Rattle.items.specs.Item.{Item, ticked, noticed, served}
-use Rattle.items.specs.Keys.{id_of as itemId}
+use Rattle.items.specs.Keys.{id_of as item_id}
 use Rattle.item_table.specs.declared.served.Served.{Served}
 use Rattle.item_table.specs.Rising.{rising_by}
 use Rattle.item_table.specs.Table.{belongs, others}
@@ -44,19 +44,19 @@ after_append known es fs = λ i id. since_append id (known id) es fs i
 
 -- each item with what is known of its id
 abbrev pub Follows : (ℕ → Since) → List Item → Type 0
-Follows known xs = All (λ x. Tracked x (known (itemId x))) xs
+Follows known xs = AllByRecursion (λ x. Tracked x (known (item_id x))) xs
 
 -- the same, by rising id
 pub record Following (known : ℕ → Since) (xs : List Item) : Type 0 where
-  pub rising : rising_by itemId 0 xs ≡ true
+  pub rising : rising_by item_id 0 xs ≡ true
   pub each : Follows known xs
 
 -- one item is replaced, and of the other ids the same is known
-pub follows_replaced : (known more : ℕ → Since) (y : Item) (xs : List Item) → rising_by itemId 0 xs ≡ true → ((j : ℕ) → (j ≡ itemId y → ⊥) → more j ≡ known j) → Tracked y (more (itemId y)) →
-    Follows known xs → Follows more (replaced itemId y xs)
+pub follows_replaced : (known more : ℕ → Since) (y : Item) (xs : List Item) → rising_by item_id 0 xs ≡ true → ((j : ℕ) → (j ≡ item_id y → ⊥) → more j ≡ known j) → Tracked y (more (item_id y)) →
+    Follows known xs → Follows more (replaced item_id y xs)
 follows_replaced known more y xs r o h a =
-    others_replaced itemId (λ x. Tracked x (known (itemId x))) (λ x. Tracked x (more (itemId x))) y xs (rising_distinct itemId 0 xs r)
-    (λ x g n. subst (Tracked x) (sym (o (itemId x) n)) g)
+    others_replaced item_id (λ x. Tracked x (known (item_id x))) (λ x. Tracked x (more (item_id x))) y xs (rising_distinct item_id 0 xs r)
+    (λ x g n. subst (Tracked x) (sym (o (item_id x) n)) g)
     a
     h
 
@@ -64,11 +64,11 @@ follows_replaced known more y xs r o h a =
 pub following_others : (known : ℕ → Since) (id : ℕ) (xs : List Item) → Following known xs → Following known (others id xs)
 following_others known id xs h =
     record {
-      rising = rising_kept itemId (λ x. not (belongs id x)) 0 xs h.rising;
-      each = all_passing (λ x. Tracked x (known (itemId x))) (λ x. Tracked x (known (itemId x))) (λ x. not (belongs id x)) (λ x g e. g) xs h.each;
+      rising = rising_kept item_id (λ x. not (belongs id x)) 0 xs h.rising;
+      each = all_passing (λ x. Tracked x (known (item_id x))) (λ x. Tracked x (known (item_id x))) (λ x. not (belongs id x)) (λ x g e. g) xs h.each;
     }
 
-first_all : (P : Item → Type 0) (p : Item → Bool) (xs : List Item) (x : Item) → All P xs → first_by p xs ≡ Some x → P x
+first_all : (P : Item → Type 0) (p : Item → Bool) (xs : List Item) (x : Item) → AllByRecursion P xs → first_by p xs ≡ Some x → P x
 first_all P p [] x a e = absurd (none_some e)
 first_all P p (y ∷ xs) x a e = at (p y) e (first_all P p xs x a.1)
   where
@@ -77,7 +77,7 @@ first_all P p (y ∷ xs) x a e = at (p y) e (first_all P p xs x a.1)
     at false h ih = ih h
 
 -- whose turn it is stands in the list
-turn_all : (P : Item → Type 0) (s last : ℕ) (xs : List Item) (x : Item) → All P xs → next_turn s last xs ≡ Some x → P x
+turn_all : (P : Item → Type 0) (s last : ℕ) (xs : List Item) (x : Item) → AllByRecursion P xs → next_turn s last xs ≡ Some x → P x
 turn_all P s last xs x a e = at (first_by (waits_after s last) xs) refl e
   where
     at : (o : Option Item) → first_by (waits_after s last) xs ≡ o → or_else o (first_by (waits s) xs) ≡ Some x → P x
@@ -89,24 +89,24 @@ turn_following : (known : ℕ → Since) (s last : ℕ) (xs : List Item) (w : Se
     Following (after known (sent_event w ∷ [])) (after_turn (next_turn s last xs) xs)
 turn_following known s last xs w h e = at (next_turn s last xs) refl e
   where
-    goes : (x : Item) (y : Waiting) → Tracked x (known (itemId x)) → first x.waiting ≡ Some y → Following (after known (Sent (itemId x) (noticed x y) ∷ [])) (replaced itemId (served x) xs)
+    goes : (x : Item) (y : Waiting) → Tracked x (known (item_id x)) → first x.waiting ≡ Some y → Following (after known (Sent (item_id x) (noticed x y) ∷ [])) (replaced item_id (served x) xs)
     goes x y t f =
         record {
-          rising = rising_replaced itemId 0 (served x) xs ∙ h.rising;
-          each = follows_replaced known (after known (Sent (itemId x) (noticed x y) ∷ [])) (served x) xs h.rising
-              (λ j n. another (itemId x) j (sent_now y.sample (known j)) (known j) (λ q. n (sym q)))
-              (subst (Tracked (served x)) (sym (this (itemId x) (sent_now y.sample (known (itemId x))) (known (itemId x)))) (tracked_served x y (known (itemId x)) f t))
+          rising = rising_replaced item_id 0 (served x) xs ∙ h.rising;
+          each = follows_replaced known (after known (Sent (item_id x) (noticed x y) ∷ [])) (served x) xs h.rising
+              (λ j n. another (item_id x) j (sent_now y.sample (known j)) (known j) (λ q. n (sym q)))
+              (subst (Tracked (served x)) (sym (this (item_id x) (sent_now y.sample (known (item_id x))) (known (item_id x)))) (tracked_served x y (known (item_id x)) f t))
               h.each;
         }
 
-    by : (x : Item) → Tracked x (known (itemId x)) → (o : Option Waiting) → first x.waiting ≡ o → option_map (serving x) (option_map (noticed x) o) ≡ Some w →
-        Following (after known (sent_event w ∷ [])) (replaced itemId (served x) xs)
+    by : (x : Item) → Tracked x (known (item_id x)) → (o : Option Waiting) → first x.waiting ≡ o → option_map (serving x) (option_map (noticed x) o) ≡ Some w →
+        Following (after known (sent_event w ∷ [])) (replaced item_id (served x) xs)
     by x t None f e = absurd (none_some e)
-    by x t (Some y) f e = subst (λ u. Following (after known (sent_event u ∷ [])) (replaced itemId (served x) xs)) (some_same (serving x (noticed x y)) w e) (goes x y t f)
+    by x t (Some y) f e = subst (λ u. Following (after known (sent_event u ∷ [])) (replaced item_id (served x) xs)) (some_same (serving x (noticed x y)) w e) (goes x y t f)
 
     at : (o : Option Item) → next_turn s last xs ≡ o → served_by o ≡ Some w → Following (after known (sent_event w ∷ [])) (after_turn o xs)
     at None q e = absurd (none_some e)
-    at (Some x) q e = by x (turn_all (λ z. Tracked z (known (itemId z))) s last xs x h.each q) (first x.waiting) refl e
+    at (Some x) q e = by x (turn_all (λ z. Tracked z (known (item_id z))) s last xs x h.each q) (first x.waiting) refl e
 
 turns_following : (m : ℕ) (known : ℕ → Since) (s last : ℕ) (xs : List Item) → Following known xs → Following (after known (map sent_event (turns m s last xs).sent)) (turns m s last xs).items
 turns_following zero known s last xs h = h
@@ -173,43 +173,43 @@ all_following known (f ∷ fs) q h =
     (all_following (after known p.events) fs p.shared (passes_following known f q h))
 
 -- an event of an item with a lower id
-pub follows_above : (known more : ℕ → Since) (k : ℕ) (xs : List Item) → ((j : ℕ) → (j ≡ k → ⊥) → more j ≡ known j) → All (λ x. k < itemId x) xs → Follows known xs → Follows more xs
+pub follows_above : (known more : ℕ → Since) (k : ℕ) (xs : List Item) → ((j : ℕ) → (j ≡ k → ⊥) → more j ≡ known j) → AllByRecursion (λ x. k < item_id x) xs → Follows known xs → Follows more xs
 follows_above known more k xs o l a =
-    all_both (λ x. k < itemId x) (λ x. Tracked x (known (itemId x))) (λ x. Tracked x (more (itemId x))) (λ x b g. subst (Tracked x) (sym (o (itemId x) (λ e. omega arith))) g) xs l a
+    all_both (λ x. k < item_id x) (λ x. Tracked x (known (item_id x))) (λ x. Tracked x (more (item_id x))) (λ x b g. subst (Tracked x) (sym (o (item_id x) (λ e. omega arith))) g) xs l a
 
 module _ (stands : ℕ → Standing) where
   abbrev shown_to : Item → Sample
   shown_to x = sample_of (stands x.identity.node)
 
   -- the sampling of items with higher ids
-  samplings_above : (k : ℕ) (t : Since) (xs : List Item) → All (λ x. k < itemId x) xs → since_start k t (samplings stands xs) ≡ t
+  samplings_above : (k : ℕ) (t : Since) (xs : List Item) → AllByRecursion (λ x. k < item_id x) xs → since_start k t (samplings stands xs) ≡ t
   samplings_above k t [] l = refl
   samplings_above k t (x ∷ xs) l = at (samples x) (samplings_above k t xs l.1) (λ u. samplings_above k u xs l.1)
     where
       at : (b : Bool) → since_start k t (samplings stands xs) ≡ t → ((u : Since) → since_start k u (samplings stands xs) ≡ u) →
-          since_start k t (cond b (Sampled (itemId x) (shown_to x) ∷ samplings stands xs) (samplings stands xs)) ≡ t
-      at true e ih = let g = l.0 in ih (only_if (eqb (itemId x) k) (sampled_now (shown_to x) t) t) ∙ another (itemId x) k (sampled_now (shown_to x) t) t (λ q. omega arith)
+          since_start k t (cond b (Sampled (item_id x) (shown_to x) ∷ samplings stands xs) (samplings stands xs)) ≡ t
+      at true e ih = let g = l.0 in ih (only_if (eqb (item_id x) k) (sampled_now (shown_to x) t) t) ∙ another (item_id x) k (sampled_now (shown_to x) t) t (λ q. omega arith)
       at false e ih = e
 
-  pub follows_sampled : (b : ℕ) (known : ℕ → Since) (xs : List Item) → rising_by itemId b xs ≡ true → Follows known xs → Follows (after known (samplings stands xs)) (map (ticked stands) xs)
+  pub follows_sampled : (b : ℕ) (known : ℕ → Since) (xs : List Item) → rising_by item_id b xs ≡ true → Follows known xs → Follows (after known (samplings stands xs)) (map (ticked stands) xs)
   follows_sampled b known [] r a = tt
   follows_sampled b known (x ∷ xs) r a =
-      let c = both (ltb b (itemId x)) (rising_by itemId (itemId x) xs) r in
-      let l = rising_above itemId (itemId x) xs c.1 in
-      at (samples x) l (tracked_ticked stands x (known (itemId x)) a.0) (λ more g. follows_sampled (itemId x) more xs c.1 g)
+      let c = both (ltb b (item_id x)) (rising_by item_id (item_id x) xs) r in
+      let l = rising_above item_id (item_id x) xs c.1 in
+      at (samples x) l (tracked_ticked stands x (known (item_id x)) a.0) (λ more g. follows_sampled (item_id x) more xs c.1 g)
     where
       -- what is known of this item, with another name for its id
-      here : (es : List Event) (t : Since) → after known es (itemId x) ≡ t → Tracked (ticked stands x) t → Tracked (ticked stands x) (after known es (itemId (ticked stands x)))
+      here : (es : List Event) (t : Since) → after known es (item_id x) ≡ t → Tracked (ticked stands x) t → Tracked (ticked stands x) (after known es (item_id (ticked stands x)))
       here es t e h = subst (Tracked (ticked stands x)) (sym (ap (after known es) (ticked_id stands x) ∙ e)) h
 
-      at : (s : Bool) → All (λ y. itemId x < itemId y) xs → Tracked (ticked stands x) (cond s (sampled_now (shown_to x) (known (itemId x))) (known (itemId x))) →
+      at : (s : Bool) → AllByRecursion (λ y. item_id x < item_id y) xs → Tracked (ticked stands x) (cond s (sampled_now (shown_to x) (known (item_id x))) (known (item_id x))) →
           ((more : ℕ → Since) → Follows more xs → Follows (after more (samplings stands xs)) (map (ticked stands) xs)) →
-          Follows (after known (cond s (Sampled (itemId x) (shown_to x) ∷ samplings stands xs) (samplings stands xs))) (ticked stands x ∷ map (ticked stands) xs)
+          Follows (after known (cond s (Sampled (item_id x) (shown_to x) ∷ samplings stands xs) (samplings stands xs))) (ticked stands x ∷ map (ticked stands) xs)
       at true l h ih =
-          let e : Event = Sampled (itemId x) (shown_to x) in
-          let t = sampled_now (shown_to x) (known (itemId x)) in (
-            here (e ∷ samplings stands xs) t (samplings_above (itemId x) (heard_of (itemId x) (known (itemId x)) e) xs l ∙ this (itemId x) t (known (itemId x))) h,
+          let e : Event = Sampled (item_id x) (shown_to x) in
+          let t = sampled_now (shown_to x) (known (item_id x)) in (
+            here (e ∷ samplings stands xs) t (samplings_above (item_id x) (heard_of (item_id x) (known (item_id x)) e) xs l ∙ this (item_id x) t (known (item_id x))) h,
             ih (after known (e ∷ []))
-                (follows_above known (after known (e ∷ [])) (itemId x) xs (λ j n. another (itemId x) j (sampled_now (shown_to x) (known j)) (known j) (λ q. n (sym q))) l a.1),
+                (follows_above known (after known (e ∷ [])) (item_id x) xs (λ j n. another (item_id x) j (sampled_now (shown_to x) (known j)) (known j) (λ q. n (sym q))) l a.1),
           )
-      at false l h ih = (here (samplings stands xs) (known (itemId x)) (samplings_above (itemId x) (known (itemId x)) xs l) h, ih known a.1)
+      at false l h ih = (here (samplings stands xs) (known (item_id x)) (samplings_above (item_id x) (known (item_id x)) xs l) h, ih known a.1)

@@ -1,6 +1,6 @@
 -- A sampled event carries what the source shows for the item's node.
 use Rattle.std.proofs.Common.{◌≡◌, ℕ, Bool, true, false, cond, List, [], ◌∷◌, ◌++◌, map, ℤ, Some, None, Option, sym, refl, inl, inr}
-use Rattle.std.specs.List.{AllByRecursion as All}
+use Rattle.std.specs.List.{AllByRecursion}
 use Rattle.std.proofs.ByRecursion.{All-append}
 use Rattle.std.proofs.lemmas.Bool.{true≢false}
 use Rattle.fifo.specs.Lists.{none, lookup, replaced}
@@ -17,7 +17,7 @@ use Rattle.subscriptions.specs.Cycle.{cycle}
 use Rattle.items.specs.declared.item.Mode.{Mode}
 use Rattle.items.specs.declared.item.Mode.TheVariants.{Disabled, Sampling, Reporting}
 use Rattle.items.specs.Item.{Item}
-use Rattle.items.specs.Keys.{id_of as itemId}
+use Rattle.items.specs.Keys.{id_of as item_id}
 use Rattle.item_table.specs.declared.served.Served.{Served}
 use Rattle.item_table.specs.Turn.{any_waits}
 use Rattle.messages.specs.declared.message.Message.{Message}
@@ -48,7 +48,7 @@ other (Sent x n) = true
 
 -- no sampled event
 abbrev Unsampled : List Event → Type 0
-Unsampled es = All (λ e. other e ≡ true) es
+Unsampled es = AllByRecursion (λ e. other e ≡ true) es
 
 none_sampled : (id : ℕ) (v : Sample) (es : List Event) → Unsampled es → In (Sampled id v) es → ⊥
 none_sampled id v es a h = true≢false (sym (all_in (λ e. other e ≡ true) (Sampled id v) es a h))
@@ -116,7 +116,7 @@ requesting_unsampled s h t (cases.crowds oldest n l r e) = tt
 
 -- an item of the list that was sampled so
 abbrev SampledIn : (ℕ → Standing) → List Item → ℕ → Sample → Type 0
-SampledIn stands xs id v = (x : Item) × In x xs × (itemId x ≡ id) × (v ≡ sample_of (stands x.identity.node))
+SampledIn stands xs id v = (x : Item) × In x xs × (item_id x ≡ id) × (v ≡ sample_of (stands x.identity.node))
 
 samplings_in : (stands : ℕ → Standing) (xs : List Item) (id : ℕ) (v : Sample) → In (Sampled id v) (samplings stands xs) → SampledIn stands xs id v
 samplings_in stands [] id v h = absurd h
@@ -125,9 +125,9 @@ samplings_in stands (x ∷ xs) id v h = at (samples x) h (λ i. more (samplings_
     more : SampledIn stands xs id v → SampledIn stands (x ∷ xs) id v
     more (y, i, e, q) = (y, inr i, e, q)
 
-    at : (b : Bool) → In (Sampled id v) (cond b (Sampled (itemId x) (sample_of (stands x.identity.node)) ∷ samplings stands xs) (samplings stands xs)) →
+    at : (b : Bool) → In (Sampled id v) (cond b (Sampled (item_id x) (sample_of (stands x.identity.node)) ∷ samplings stands xs) (samplings stands xs)) →
         (In (Sampled id v) (samplings stands xs) → SampledIn stands (x ∷ xs) id v) → SampledIn stands (x ∷ xs) id v
-    at true (inl e) ih = let k : itemId x ≡ id = cc in let w : sample_of (stands x.identity.node) ≡ v = cc in (x, inl refl, k, sym w)
+    at true (inl e) ih = let k : item_id x ≡ id = cc in let w : sample_of (stands x.identity.node) ≡ v = cc in (x, inl refl, k, sym w)
     at true (inr h) ih = ih h
     at false h ih = ih h
 
@@ -174,7 +174,7 @@ modes_unsampled : (s : State) (id item mode : ℕ) (t : Step (Unit {0})) → cas
 modes_unsampled s id item mode t (cases.unknown e) = tt
 modes_unsampled s id item mode t (cases.no_item e) = tt
 modes_unsampled s id item mode t (cases.bad x c) = tt
-modes_unsampled s id item mode t (cases.sets f x m e i c) = starting_unsampled x.mode m (itemId x)
+modes_unsampled s id item mode t (cases.sets f x m e i c) = starting_unsampled x.mode m (item_id x)
 
 publishes_unsampled : (s : State) (h : ℕ) (acks : List Acknowledgement) (room places : ℕ) (t : Step ℕ) → cases.Publishing s h acks room places t → Unsampled t.events
 publishes_unsampled s h acks room places t (cases.short e) = tt

@@ -10,7 +10,7 @@ use Rattle.subscriptions.specs.Facts.{live}
 use Rattle.subscriptions.specs.Changes.{runs, counted_down}
 use Rattle.subscriptions.specs.Cycle.{cycle}
 use Rattle.items.specs.Item.{Item}
-use Rattle.items.specs.Keys.{id_of as itemId}
+use Rattle.items.specs.Keys.{id_of as item_id}
 use Rattle.item_table.specs.declared.served.Served.{Served}
 use Rattle.item_table.specs.Turn.{any_waits}
 use Rattle.retransmission.specs.Rows.{Kept}
@@ -48,7 +48,7 @@ pub samplings_join_none : (stands : ℕ → Standing) (xs : List Item) → joine
 samplings_join_none stands [] = refl
 samplings_join_none stands (x ∷ xs) = at (samples x) (samplings_join_none stands xs)
   where
-    at : (b : Bool) → joined_ids (samplings stands xs) ≡ [] → joined_ids (cond b (Sampled (itemId x) (sample_of (stands x.identity.node)) ∷ samplings stands xs) (samplings stands xs)) ≡ []
+    at : (b : Bool) → joined_ids (samplings stands xs) ≡ [] → joined_ids (cond b (Sampled (item_id x) (sample_of (stands x.identity.node)) ∷ samplings stands xs) (samplings stands xs)) ≡ []
     at true e = e
     at false e = e
 

@@ -1,6 +1,6 @@
 -- The notifications in all responses are those of the sent events.
 use Rattle.std.proofs.Common.{◌≡◌, ℕ, ◌≤◌, Bool, true, false, cond, List, [], ◌∷◌, ◌++◌, map, ℤ, Some, None, Option, sym, refl, ap, ◌∙◌, subst, append_assoc, arith}
-use Rattle.std.specs.List.{AllByRecursion as All}
+use Rattle.std.specs.List.{AllByRecursion}
 use Rattle.std.proofs.ByRecursion.{All-weaker}
 use Rattle.std.proofs.lemmas.List.{append-nil, length-map}
 use Rattle.fifo.specs.Lists.{none, lookup, replaced}
@@ -15,7 +15,7 @@ use Rattle.subscriptions.specs.Cycle.{Cycled, cycle}
 use Rattle.items.specs.declared.item.Mode.{Mode}
 use Rattle.items.specs.declared.item.Mode.TheVariants.{Disabled, Sampling, Reporting}
 use Rattle.items.specs.Item.{Item}
-use Rattle.items.specs.Keys.{id_of as itemId}
+use Rattle.items.specs.Keys.{id_of as item_id}
 use Rattle.item_table.specs.declared.served.Served.{Served}
 use Rattle.item_table.specs.Turn.{notices, any_waits}
 use Rattle.messages.specs.declared.message.Message.{Message}
@@ -117,7 +117,7 @@ passes_agree f q l = at (alive f) refl
     at true a = count (runs f) a
     at false a = refl
 
-all_agree : (fs : List Figures) (q : Shared) → All Limited fs → Agree (passes_all fs q).responses (passes_all fs q).events
+all_agree : (fs : List Figures) (q : Shared) → AllByRecursion Limited fs → Agree (passes_all fs q).responses (passes_all fs q).events
 all_agree [] q l = refl
 all_agree (f ∷ fs) q l =
     let p = passes f q in
@@ -127,7 +127,7 @@ samplings_silent : (stands : ℕ → Standing) (xs : List Item) → sent_notific
 samplings_silent stands [] = refl
 samplings_silent stands (x ∷ xs) = at (samples x) (samplings_silent stands xs)
   where
-    at : (b : Bool) → sent_notifications (samplings stands xs) ≡ [] → sent_notifications (cond b (Sampled (itemId x) (sample_of (stands x.identity.node)) ∷ samplings stands xs) (samplings stands xs)) ≡ []
+    at : (b : Bool) → sent_notifications (samplings stands xs) ≡ [] → sent_notifications (cond b (Sampled (item_id x) (sample_of (stands x.identity.node)) ∷ samplings stands xs) (samplings stands xs)) ≡ []
     at true ih = ih
     at false ih = ih
 
@@ -187,10 +187,10 @@ modes_agree : (s : State) (id item mode : ℕ) (t : Step (Unit {0})) → cases.S
 modes_agree s id item mode t (cases.unknown e) = refl
 modes_agree s id item mode t (cases.no_item e) = refl
 modes_agree s id item mode t (cases.bad x c) = refl
-modes_agree s id item mode t (cases.sets f x m e i c) = sym (starting_silent x.mode m (itemId x))
+modes_agree s id item mode t (cases.sets f x m e i c) = sym (starting_silent x.mode m (item_id x))
 
 -- a request, with the state as it is after the acknowledgements
-requesting_agrees : (s : State) (h : ℕ) → All Limited s.subscriptions → (t : Step ℕ) → cases.Requesting s h t → Agrees t
+requesting_agrees : (s : State) (h : ℕ) → AllByRecursion Limited s.subscriptions → (t : Step ℕ) → cases.Requesting s h t → Agrees t
 requesting_agrees s h a t (cases.nobody e) = refl
 requesting_agrees s h a t (cases.lost id l e) = refl
 requesting_agrees s h a t (cases.answered id f l e v m) = message_agrees h f s.items s.kept (lookup_all id_of Limited id s.subscriptions f a e)
@@ -201,7 +201,7 @@ requesting_agrees s h a t (cases.ended id f l e v) = refl
 requesting_agrees s h a t (cases.queued n l r) = refl
 requesting_agrees s h a t (cases.crowds oldest n l r e) = refl
 
-limits : (fs : List Figures) → All Bounded fs → All Limited fs
+limits : (fs : List Figures) → AllByRecursion Bounded fs → AllByRecursion Limited fs
 limits fs a = All-weaker Bounded Limited (λ f b. b.2.1) fs a
 
 publishes_agree : (s : State) → Sound s → (h : ℕ) (acks : List Acknowledgement) (room places : ℕ) (t : Step ℕ) → cases.Publishing s h acks room places t → Agrees t

@@ -12,7 +12,7 @@ use Rattle.subscriptions.specs.Changes.{named}
 use Rattle.items.specs.declared.item.Mode.{Mode}
 use Rattle.items.specs.declared.item.Mode.TheVariants.{Disabled, Sampling, Reporting}
 use Rattle.items.specs.Item.{Item, modified, between, moded, ticked}
-use Rattle.items.specs.Keys.{id_of as itemId}
+use Rattle.items.specs.Keys.{id_of as item_id}
 use Rattle.items.specs.Queue.{queue_size_of}
 use Rattle.item_table.proofs.Orders.{rising_map, ticked_id}
 use Rattle.messages.specs.declared.message.Message.{Message}
@@ -46,8 +46,8 @@ KeptKnown known t = Follows (after known t.events) t.state.items
 started_other : (known : ℕ → Since) (k j : ℕ) → (j ≡ k → ⊥) → after known (Started k ∷ []) j ≡ known j
 started_other known k j n = another k j nothing (known j) (λ e. n (sym e))
 
-started_this : (known : ℕ → Since) (x : Item) → x.last ≡ None → Tracked x (after known (Started (itemId x) ∷ []) (itemId x))
-started_this known x e = subst (Tracked x) (sym (this (itemId x) nothing (known (itemId x)))) (tracked_start x e)
+started_this : (known : ℕ → Since) (x : Item) → x.last ≡ None → Tracked x (after known (Started (item_id x) ∷ []) (item_id x))
+started_this known x e = subst (Tracked x) (sym (this (item_id x) nothing (known (item_id x)))) (tracked_start x e)
 
 starting_other : (known : ℕ → Since) (a b : Mode) (k j : ℕ) → (j ≡ k → ⊥) → after known (starting a b k) j ≡ known j
 starting_other known Disabled Disabled k j n = refl
@@ -56,7 +56,7 @@ starting_other known Disabled Reporting k j n = started_other known k j n
 starting_other known Sampling b k j n = refl
 starting_other known Reporting b k j n = refl
 
-between_id : (a b : Mode) (x : Item) → itemId (between a b x) ≡ itemId x
+between_id : (a b : Mode) (x : Item) → item_id (between a b x) ≡ item_id x
 between_id Disabled Disabled x = refl
 between_id Disabled Sampling x = refl
 between_id Disabled Reporting x = refl
@@ -111,9 +111,9 @@ module _ (known : ℕ → Since) (s : State) (sound : Sound s) (h : Follows know
   adds_known stands id node mode p t (cases.adds f kind sample checks e n l k c) =
       let x = new_item s f id node p kind checks in
       let more = after known (Started s.next ∷ []) in
-      All-push (λ y. Tracked y (more (itemId y))) s.items x
-      (all_both (λ y. itemId y < s.next) (λ y. Tracked y (known (itemId y))) (λ y. Tracked y (more (itemId y)))
-      (λ y b g. subst (Tracked y) (sym (started_other known s.next (itemId y) (λ q. omega arith))) g)
+      All-push (λ y. Tracked y (more (item_id y))) s.items x
+      (all_both (λ y. item_id y < s.next) (λ y. Tracked y (known (item_id y))) (λ y. Tracked y (more (item_id y)))
+      (λ y b g. subst (Tracked y) (sym (started_other known s.next (item_id y) (λ q. omega arith))) g)
       s.items
       sound.monitored.below
       h)
@@ -125,12 +125,12 @@ module _ (known : ℕ → Since) (s : State) (sound : Sound s) (h : Follows know
   changes_known id item p t (cases.bad x y e c) = h
   changes_known id item p t (cases.modifies f x filter e i c) =
       let y = modified x (settings_of p filter f) (queue_size_of p.queue_size) in
-      follows_replaced known (after known (Started (itemId y) ∷ [])) y s.items sound.monitored.rising (started_other known (itemId y)) (started_this known y refl) h
+      follows_replaced known (after known (Started (item_id y) ∷ [])) y s.items sound.monitored.rising (started_other known (item_id y)) (started_this known y refl) h
 
   removes_known : (id item : ℕ) (t : Step (Unit {0})) → cases.DeletingItem s id item t → KeptKnown known t
   removes_known id item t (cases.unknown e) = h
   removes_known id item t (cases.no_item e) = h
-  removes_known id item t (cases.deletes f x e i) = all_without itemId (λ y. Tracked y (known (itemId y))) item s.items h
+  removes_known id item t (cases.deletes f x e i) = all_without item_id (λ y. Tracked y (known (item_id y))) item s.items h
 
   modes_known : (id item mode : ℕ) (t : Step (Unit {0})) → cases.SettingMode s id item mode t → KeptKnown known t
   modes_known id item mode t (cases.unknown e) = h
@@ -138,12 +138,12 @@ module _ (known : ℕ → Since) (s : State) (sound : Sound s) (h : Follows know
   modes_known id item mode t (cases.bad x c) = h
   modes_known id item mode t (cases.sets f x m e i c) =
       let y = moded x m in
-      let more = after known (starting x.mode m (itemId x)) in
+      let more = after known (starting x.mode m (item_id x)) in
       let same = between_id x.mode m x in
-      let g = lookup_all itemId (λ z. Tracked z (known (itemId z))) item s.items x h (item_found id item s.items x i) in
+      let g = lookup_all item_id (λ z. Tracked z (known (item_id z))) item s.items x h (item_found id item s.items x i) in
       follows_replaced known more y s.items sound.monitored.rising
-      (λ j n. starting_other known x.mode m (itemId x) j (λ q. n (q ∙ sym same)))
-      (subst (Tracked y) (sym (ap more same)) (tracked_between x.mode m x (itemId x) (known (itemId x)) refl g))
+      (λ j n. starting_other known x.mode m (item_id x) j (λ q. n (q ∙ sym same)))
+      (subst (Tracked y) (sym (ap more same)) (tracked_between x.mode m x (item_id x) (known (item_id x)) refl g))
       h
 
   publishes_known : (n : ℕ) (acks : List Acknowledgement) (room places : ℕ) (t : Step ℕ) → cases.Publishing s n acks room places t → KeptKnown known t
@@ -170,7 +170,7 @@ module _ (known : ℕ → Since) (s : State) (sound : Sound s) (h : Follows know
       let es = samplings stands s.items in
       let q = shared_of (sampled_state stands s) in
       let p = passed (sampled_state stands s) in
-      let r : Following (after known es) q.items = record { rising = rising_map itemId (ticked stands) (ticked_id stands) 0 s.items ∙ sound.monitored.rising; each = follows_sampled stands 0 known s.items sound.monitored.rising h } in
+      let r : Following (after known es) q.items = record { rising = rising_map item_id (ticked stands) (ticked_id stands) 0 s.items ∙ sound.monitored.rising; each = follows_sampled stands 0 known s.items sound.monitored.rising h } in
       subst (λ k. Follows k p.shared.items) (after_append known es p.events) (all_following (after known es) s.subscriptions q r).each
 
   done_known : (stands : ℕ → Standing) (c : Call) → Follows (after known (done_by stands s c).events) (done_by stands s c).state.items
@@ -208,4 +208,4 @@ pub up_to_date : (first : ℕ) (scenes : List Scene) → UpToDate first scenes
 up_to_date first scenes x v i m w e =
     let known = after (λ id. nothing) (events (new_state first) scenes) in
     let a = run_known (λ id. nothing) (new_state first) (sound_new first) scenes tt in
-    tracked_shown x (known (itemId x)) v (all_in (λ y. Tracked y (known (itemId y))) x (final (new_state first) scenes).items a i) m w e
+    tracked_shown x (known (item_id x)) v (all_in (λ y. Tracked y (known (item_id y))) x (final (new_state first) scenes).items a i) m w e

@@ -11,7 +11,7 @@ use Rattle.subscriptions.specs.Facts.{live}
 use Rattle.subscriptions.specs.Changes.{runs, counted_down, standing}
 use Rattle.subscriptions.specs.Cycle.{due}
 use Rattle.items.specs.Item.{Item}
-use Rattle.items.specs.Keys.{id_of as itemId}
+use Rattle.items.specs.Keys.{id_of as item_id}
 use Rattle.item_table.specs.Turn.{any_waits}
 use Rattle.messages.specs.declared.response.Response.{Response}
 use Rattle.messages.specs.Responses.{notifications_shown}
@@ -94,8 +94,8 @@ Shown x (Some u) v = (changed x.settings.filter.filter u v ≡ false) × (change
 abbrev pub UpToDate : ℕ → List Scene → Type 0
 UpToDate first scenes =
     (x : Item) (v : Sample) → In x (final (new_state first) scenes).items → enabled_mode x.mode ≡ true → x.waiting ≡ [] →
-    (since_start (itemId x) nothing (events (new_state first) scenes)).sampled ≡ Some v →
-    Shown x (since_start (itemId x) nothing (events (new_state first) scenes)).sent v
+    (since_start (item_id x) nothing (events (new_state first) scenes)).sampled ≡ Some v →
+    Shown x (since_start (item_id x) nothing (events (new_state first) scenes)).sent v
 
 -- The events are what the host sees.
 
@@ -119,7 +119,7 @@ abbrev pub FromSource : ℕ → List Scene → Type 0
 FromSource first scenes =
     (before : List Scene) (c : Scene) (after : List Scene) (id : ℕ) (v : Sample) → scenes ≡ before ++ c ∷ after →
     In (Sampled id v) (called (final (new_state first) before) c).events →
-    (x : Item) × In x (final (new_state first) before).items × (itemId x ≡ id) × (v ≡ sample_of (c.stands x.identity.node))
+    (x : Item) × In x (final (new_state first) before).items × (item_id x ≡ id) × (v ≡ sample_of (c.stands x.identity.node))
 
 -- the late list after a call is the one before, less those who left, then those who joined
 abbrev pub joined_ids : List Event → List ℕ

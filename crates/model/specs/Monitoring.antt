@@ -18,7 +18,7 @@ use Rattle.items.specs.declared.fault.ItemFault.{ItemFault}
 use Rattle.items.specs.declared.fault.ItemFault.TheVariants.{Filter}
 use Rattle.items.specs.Faults.{checked_item, checked_mode, mode_of}
 use Rattle.items.specs.Item.{Item, created, modified, moded, sampling_ticks}
-use Rattle.items.specs.Keys.{id_of as itemId}
+use Rattle.items.specs.Keys.{id_of as item_id}
 use Rattle.items.specs.Queue.{queue_size_of}
 use Rattle.item_table.specs.Table.{item_in}
 use Rattle.answers.specs.declared.fault.ServiceFault.TheVariants.{TooManyMonitoredItems, IdsUsedUp, NodeIdUnknown}
@@ -44,8 +44,8 @@ abbrev pub adding : State → Figures → Item → Step (ℕ × ℕ × ℕ)
 adding s f x =
     answers
     (record { next = s.next + 1; subscriptions = naming s f; items = s.items ++ x ∷ []; kept = s.kept; requests = s.requests; late = s.late })
-    (itemId x, x.settings.interval, x.size)
-    (Started (itemId x) ∷ [])
+    (item_id x, x.settings.interval, x.size)
+    (Started (item_id x) ∷ [])
 
 abbrev pub new_item : State → Figures → ℕ → ℕ → MonitoringParameters → Kind → Mode × CheckedFilter → Item
 new_item s f id node p kind checks =
@@ -66,10 +66,10 @@ of_item (Ok filter) = Ok filter
 of_item (Err e) = Err (Filter e)
 
 abbrev pub replacing : State → Figures → Item → List Event → Step (Unit {0})
-replacing s f x events = answers (with_items s (naming s f) (replaced itemId x s.items)) tt events
+replacing s f x events = answers (with_items s (naming s f) (replaced item_id x s.items)) tt events
 
 abbrev pub modifying : State → Figures → Item → Step (ℕ × ℕ)
-modifying s f x = answers (with_items s (naming s f) (replaced itemId x s.items)) (x.settings.interval, x.size) (Started (itemId x) ∷ [])
+modifying s f x = answers (with_items s (naming s f) (replaced item_id x s.items)) (x.settings.interval, x.size) (Started (item_id x) ∷ [])
 
 -- the filter is checked against the kind that the item kept
 abbrev pub modify_item : State → ℕ → ℕ → MonitoringParameters → Step (ℕ × ℕ)
@@ -83,7 +83,7 @@ abbrev pub delete_item : State → ℕ → ℕ → Step (Unit {0})
 delete_item s id item =
     for_live (live_in id s.subscriptions) s id (λ f.
     for_item (item_in id item s.items) s item (λ x.
-    answers (with_items s (naming s f) (without itemId item s.items)) tt []))
+    answers (with_items s (naming s f) (without item_id item s.items)) tt []))
 
 -- an item that was disabled and is not any more starts again
 abbrev pub starting : Mode → Mode → ℕ → List Event
@@ -98,4 +98,4 @@ set_monitoring_mode s id item mode =
     for_live (live_in id s.subscriptions) s id (λ f.
     for_item (item_in id item s.items) s item (λ x.
     for_checked (checked_mode (mode_of mode) item) s (λ m.
-    replacing s f (moded x m) (starting x.mode m (itemId x)))))
+    replacing s f (moded x m) (starting x.mode m (item_id x)))))

@@ -1,6 +1,6 @@
 -- What holds of the engine's state after every call.
 use Rattle.std.specs.Prelude.{◌≡◌, ℕ, ◌<◌, ◌≤◌, Bool, true, false, ◌⊎◌, List, [], ◌∷◌, map, length, Some, None, filter, Option}
-use Rattle.std.specs.List.{AllByRecursion as All}
+use Rattle.std.specs.List.{AllByRecursion}
 use Rattle.fifo.specs.Lists.{none}
 use Rattle.values.specs.declared.value.Sample.{Sample}
 use Rattle.subscriptions.specs.declared.figures.Figures.{Figures}
@@ -8,7 +8,7 @@ use Rattle.subscriptions.specs.Facts.{live, prompt, Timely, Lasting, Numbered, C
 use Rattle.subscriptions.specs.Keys.{id_of}
 use Rattle.items.specs.declared.waiting.Waiting.{Waiting}
 use Rattle.items.specs.Item.{Item}
-use Rattle.items.specs.Keys.{id_of as itemId}
+use Rattle.items.specs.Keys.{id_of as item_id}
 use Rattle.item_table.specs.Rising.{rising_by}
 use Rattle.messages.specs.declared.message.Message.{Message}
 use Rattle.messages.specs.Messages.{number_of}
@@ -49,12 +49,12 @@ pub record Published (s : State) : Type 0 where
   -- at most four slots, by rising id, all given before
   pub few : length s.subscriptions ≤ 4
   pub rising : rising_by id_of 0 s.subscriptions ≡ true
-  pub below : All (λ f. f.id < s.next) s.subscriptions
-  pub bounded : All Bounded s.subscriptions
+  pub below : AllByRecursion (λ f. f.id < s.next) s.subscriptions
+  pub bounded : AllByRecursion Bounded s.subscriptions
   -- the late list names occupied slots, each once
   pub once : Distinct s.late
   pub known : Within s.late (map id_of s.subscriptions)
-  pub placed : All (Placed s.late) s.subscriptions
+  pub placed : AllByRecursion (Placed s.late) s.subscriptions
   -- no request is queued while a subscription is late, or where there is none
   pub calm : (s.late ≡ []) ⊎ (s.requests ≡ [])
   pub asked : none s.subscriptions ≡ true → s.requests ≡ []
@@ -79,20 +79,20 @@ Fitting x = (1 ≤ x.size) × (x.size ≤ 8) × (length x.waiting ≤ x.size)
 -- the items: at most 32, by rising id, all given before, each of a live subscription
 pub record Monitored (s : State) : Type 0 where
   pub few : length s.items ≤ 32
-  pub rising : rising_by itemId 0 s.items ≡ true
-  pub below : All (λ x. itemId x < s.next) s.items
-  pub owned : All (λ x. In x.identity.subscription (live_ids s.subscriptions)) s.items
-  pub newest : All Newest s.items
-  pub fitting : All Fitting s.items
+  pub rising : rising_by item_id 0 s.items ≡ true
+  pub below : AllByRecursion (λ x. item_id x < s.next) s.items
+  pub owned : AllByRecursion (λ x. In x.identity.subscription (live_ids s.subscriptions)) s.items
+  pub newest : AllByRecursion Newest s.items
+  pub fitting : AllByRecursion Fitting s.items
 
 -- the kept messages of a subscription: at most eight, no number twice, 1 to 16 notifications in each
 abbrev pub Retained : Kept → Type 0
-Retained row = (length row.messages ≤ 8) × Distinct (map number_of row.messages) × All (λ m. (1 ≤ m.count) × (m.count ≤ 16)) row.messages
+Retained row = (length row.messages ≤ 8) × Distinct (map number_of row.messages) × AllByRecursion (λ m. (1 ≤ m.count) × (m.count ≤ 16)) row.messages
 
 -- the kept messages: a row for each live subscription, in order
 pub record KeptMessages (s : State) : Type 0 where
   pub rows : map subscription_of s.kept ≡ live_ids s.subscriptions
-  pub retained : All Retained s.kept
+  pub retained : AllByRecursion Retained s.kept
 
 pub record Sound (s : State) : Type 0 where
   pub published : Published s

@@ -1,6 +1,6 @@
 -- The days left of each node, and what they mean.
 use Rattle.std.specs.Prelude.{◌≡◌, ℕ, ◌<◌, ◌≤◌, Bool, true, false, cond, ◌⊎◌, List, map, length, ℤ, pos, negsuc, ◌<ℤ◌, count_by, nat_le, slice_index_or}
-use Rattle.std.specs.List.{AllByRecursion as All}
+use Rattle.std.specs.List.{AllByRecursion}
 use Rattle.values.specs.declared.value.Value.{Value}
 use Rattle.values.specs.declared.value.Value.TheVariants as value
 use Rattle.sources.specs.declared.certificates.Certificates.{Certificates}
@@ -71,7 +71,7 @@ entries_of certificates = map (entry_of (standing_at certificates)) (certificate
 
 -- every node with a row shows a number of days
 abbrev pub AllShowDays : Certificates → Type 0
-AllShowDays certificates = All (λ row. ShowsDays (standing_at certificates row.node)) (certificate_rows certificates)
+AllShowDays certificates = AllByRecursion (λ row. ShowsDays (standing_at certificates row.node)) (certificate_rows certificates)
 
 -- fewer days left, or as many and no higher node
 abbrev pub NotBehind : Remaining → Remaining → Type 0

@@ -18,8 +18,8 @@ use Rattle.items.specs.declared.fault.ItemFault.{ItemFault}
 use Rattle.items.specs.declared.fault.ItemFault.TheVariants.{MonitoredItemIdInvalid}
 use Rattle.items.specs.Faults.{checked_item, checked_mode, mode_of}
 use Rattle.items.specs.Item.{Item, moded}
-use Rattle.items.specs.Item.{modified as modifiedItem}
-use Rattle.items.specs.Keys.{id_of as itemId}
+use Rattle.items.specs.Item.{modified as modified_item}
+use Rattle.items.specs.Keys.{id_of as item_id}
 use Rattle.items.specs.Queue.{queue_size_of}
 use Rattle.item_table.specs.Table.{item_in}
 use Rattle.messages.specs.declared.message.Message.{Message}
@@ -166,25 +166,25 @@ pub data ModifyingItem (s : State) (id item : ℕ) (p : MonitoringParameters) : 
   no_item : item_in id item s.items ≡ None → ModifyingItem s id item p (refused s (fault.Item (MonitoredItemIdInvalid item)))
   bad : (x : Item) (e : ItemFault) → item_in id item s.items ≡ Some x → of_item (checked p.filter x.identity.kind item) ≡ Err e → ModifyingItem s id item p (refused s (fault.Item e))
   modifies : (f : Figures) (x : Item) (filter : CheckedFilter) → live_in id s.subscriptions ≡ Some f → item_in id item s.items ≡ Some x → of_item (checked p.filter x.identity.kind item) ≡ Ok filter →
-      ModifyingItem s id item p (modifying s f (modifiedItem x (settings_of p filter f) (queue_size_of p.queue_size)))
+      ModifyingItem s id item p (modifying s f (modified_item x (settings_of p filter f) (queue_size_of p.queue_size)))
 
 pub modifying_item : (s : State) (id item : ℕ) (p : MonitoringParameters) → ModifyingItem s id item p (modify_item s id item p)
 modifying_item s id item p = at (live_in id s.subscriptions) refl
   where
     check : (f : Figures) (x : Item) → live_in id s.subscriptions ≡ Some f → item_in id item s.items ≡ Some x →
         (r : Result CheckedFilter ItemFault) → of_item (checked p.filter x.identity.kind item) ≡ r →
-        ModifyingItem s id item p (for_checked r s (λ filter. modifying s f (modifiedItem x (settings_of p filter f) (queue_size_of p.queue_size))))
+        ModifyingItem s id item p (for_checked r s (λ filter. modifying s f (modified_item x (settings_of p filter f) (queue_size_of p.queue_size))))
     check f x e i (Err y) c = bad x y i c
     check f x e i (Ok filter) c = modifies f x filter e i c
 
     found : (f : Figures) → live_in id s.subscriptions ≡ Some f → (o : Option Item) → item_in id item s.items ≡ o →
-        ModifyingItem s id item p (for_item o s item (λ x. for_checked (of_item (checked p.filter x.identity.kind item)) s (λ filter. modifying s f (modifiedItem x (settings_of p filter f) (queue_size_of p.queue_size)))))
+        ModifyingItem s id item p (for_item o s item (λ x. for_checked (of_item (checked p.filter x.identity.kind item)) s (λ filter. modifying s f (modified_item x (settings_of p filter f) (queue_size_of p.queue_size)))))
     found f e None i = no_item i
     found f e (Some x) i = check f x e i (of_item (checked p.filter x.identity.kind item)) refl
 
     at : (o : Option Figures) → live_in id s.subscriptions ≡ o →
         ModifyingItem s id item p (for_live o s id (λ f. for_item (item_in id item s.items) s item (λ x. for_checked (of_item (checked p.filter x.identity.kind item)) s
-        (λ filter. modifying s f (modifiedItem x (settings_of p filter f) (queue_size_of p.queue_size))))))
+        (λ filter. modifying s f (modified_item x (settings_of p filter f) (queue_size_of p.queue_size))))))
     at None e = unknown e
     at (Some f) e = found f e (item_in id item s.items) refl
 
@@ -192,18 +192,18 @@ pub data DeletingItem (s : State) (id item : ℕ) : Step (Unit {0}) → Type 0 w
   unknown : live_in id s.subscriptions ≡ None → DeletingItem s id item (refused s (SubscriptionIdInvalid id))
   no_item : item_in id item s.items ≡ None → DeletingItem s id item (refused s (fault.Item (MonitoredItemIdInvalid item)))
   deletes : (f : Figures) (x : Item) → live_in id s.subscriptions ≡ Some f → item_in id item s.items ≡ Some x →
-      DeletingItem s id item (answers (with_items s (naming s f) (without itemId item s.items)) tt [])
+      DeletingItem s id item (answers (with_items s (naming s f) (without item_id item s.items)) tt [])
 
 pub deleting_item : (s : State) (id item : ℕ) → DeletingItem s id item (delete_item s id item)
 deleting_item s id item = at (live_in id s.subscriptions) refl
   where
     found : (f : Figures) → live_in id s.subscriptions ≡ Some f → (o : Option Item) → item_in id item s.items ≡ o →
-        DeletingItem s id item (for_item o s item (λ x. answers (with_items s (naming s f) (without itemId item s.items)) tt []))
+        DeletingItem s id item (for_item o s item (λ x. answers (with_items s (naming s f) (without item_id item s.items)) tt []))
     found f e None i = no_item i
     found f e (Some x) i = deletes f x e i
 
     at : (o : Option Figures) → live_in id s.subscriptions ≡ o →
-        DeletingItem s id item (for_live o s id (λ f. for_item (item_in id item s.items) s item (λ x. answers (with_items s (naming s f) (without itemId item s.items)) tt [])))
+        DeletingItem s id item (for_live o s id (λ f. for_item (item_in id item s.items) s item (λ x. answers (with_items s (naming s f) (without item_id item s.items)) tt [])))
     at None e = unknown e
     at (Some f) e = found f e (item_in id item s.items) refl
 
@@ -212,23 +212,23 @@ pub data SettingMode (s : State) (id item mode : ℕ) : Step (Unit {0}) → Type
   no_item : item_in id item s.items ≡ None → SettingMode s id item mode (refused s (fault.Item (MonitoredItemIdInvalid item)))
   bad : (e : ItemFault) → checked_mode (mode_of mode) item ≡ Err e → SettingMode s id item mode (refused s (fault.Item e))
   sets : (f : Figures) (x : Item) (m : Mode) → live_in id s.subscriptions ≡ Some f → item_in id item s.items ≡ Some x → checked_mode (mode_of mode) item ≡ Ok m →
-      SettingMode s id item mode (replacing s f (moded x m) (starting x.mode m (itemId x)))
+      SettingMode s id item mode (replacing s f (moded x m) (starting x.mode m (item_id x)))
 
 pub setting_mode : (s : State) (id item mode : ℕ) → SettingMode s id item mode (set_monitoring_mode s id item mode)
 setting_mode s id item mode = at (live_in id s.subscriptions) refl
   where
     check : (f : Figures) (x : Item) → live_in id s.subscriptions ≡ Some f → item_in id item s.items ≡ Some x → (r : Result Mode ItemFault) → checked_mode (mode_of mode) item ≡ r →
-        SettingMode s id item mode (for_checked r s (λ m. replacing s f (moded x m) (starting x.mode m (itemId x))))
+        SettingMode s id item mode (for_checked r s (λ m. replacing s f (moded x m) (starting x.mode m (item_id x))))
     check f x e i (Err y) c = bad y c
     check f x e i (Ok m) c = sets f x m e i c
 
     found : (f : Figures) → live_in id s.subscriptions ≡ Some f → (o : Option Item) → item_in id item s.items ≡ o →
-        SettingMode s id item mode (for_item o s item (λ x. for_checked (checked_mode (mode_of mode) item) s (λ m. replacing s f (moded x m) (starting x.mode m (itemId x)))))
+        SettingMode s id item mode (for_item o s item (λ x. for_checked (checked_mode (mode_of mode) item) s (λ m. replacing s f (moded x m) (starting x.mode m (item_id x)))))
     found f e None i = no_item i
     found f e (Some x) i = check f x e i (checked_mode (mode_of mode) item) refl
 
     at : (o : Option Figures) → live_in id s.subscriptions ≡ o →
-        SettingMode s id item mode (for_live o s id (λ f. for_item (item_in id item s.items) s item (λ x. for_checked (checked_mode (mode_of mode) item) s (λ m. replacing s f (moded x m) (starting x.mode m (itemId x))))))
+        SettingMode s id item mode (for_live o s id (λ f. for_item (item_in id item s.items) s item (λ x. for_checked (checked_mode (mode_of mode) item) s (λ m. replacing s f (moded x m) (starting x.mode m (item_id x))))))
     at None e = unknown e
     at (Some f) e = found f e (item_in id item s.items) refl
 

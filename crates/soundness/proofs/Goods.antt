@@ -8,7 +8,7 @@ use Rattle.items.specs.declared.item.Mode.TheVariants.{Disabled, Sampling, Repor
 use Rattle.items.specs.declared.item.Identity.{Identity}
 use Rattle.items.specs.declared.item.Settings.{Settings}
 use Rattle.items.specs.Item.{Item, created, counting, with_waiting, accepts, offered, by_mode, ticked, modified, between, moded, served}
-use Rattle.items.specs.Keys.{id_of as itemId}
+use Rattle.items.specs.Keys.{id_of as item_id}
 use Rattle.items.specs.Queue.{queued, queue_size_of}
 use Rattle.model.specs.Sound.{In, Newest, Fitting}
 use Rattle.soundness.proofs.Members.{none_some}
@@ -16,7 +16,7 @@ use Rattle.soundness.proofs.Waiting.{newest_rest, length_rest, queued_newest, qu
 
 -- an item with an id below n, of one of the subscriptions
 abbrev pub Good : ℕ → List ℕ → Item → Type 0
-Good n ids x = (itemId x < n) × In x.identity.subscription ids × Newest x × Fitting x
+Good n ids x = (item_id x < n) × In x.identity.subscription ids × Newest x × Fitting x
 
 module _ (n : ℕ) (ids : List ℕ) where
   pub good_created : (i : Identity) (s : Settings) (q : ℕ) (m : Mode) → i.id < n → In i.subscription ids → Good n ids (created i s (queue_size_of q) m)

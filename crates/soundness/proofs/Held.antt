@@ -1,13 +1,13 @@
 -- The items and the kept messages of the live subscriptions, apart from a state.
 use Rattle.std.proofs.Common.{◌≡◌, ℕ, zero, suc, ◌+◌, ◌<◌, ◌≤◌, Bool, true, false, cond, not, ltb, List, [], ◌∷◌, ◌++◌, map, length, Some, None, Option, sym, refl, ◌∙◌, subst, arith}
-use Rattle.std.specs.List.{AllByRecursion as All}
+use Rattle.std.specs.List.{AllByRecursion}
 use Rattle.std.proofs.ByRecursion.{All-weaker, All-push}
 use Rattle.std.proofs.lemmas.List.{length-map, length_push}
 use Rattle.std.proofs.lemmas.Bool.{lt-ltb, eqb-false, not-true}
 use Rattle.fifo.specs.Lists.{lookup, replaced, without}
 use Rattle.sources.specs.declared.source.Standing.{Standing}
 use Rattle.items.specs.Item.{Item, ticked, served}
-use Rattle.items.specs.Keys.{id_of as itemId}
+use Rattle.items.specs.Keys.{id_of as item_id}
 use Rattle.item_table.specs.declared.served.Served.{Served}
 use Rattle.item_table.specs.Rising.{rising_by}
 use Rattle.item_table.specs.Table.{all_below, belongs, of_subscription, item_in, others}
@@ -25,8 +25,8 @@ use Rattle.soundness.proofs.Kept.{Rows, rows_without}
 -- at most 32 items by rising id
 pub record Items (n : ℕ) (ids : List ℕ) (xs : List Item) : Type 0 where
   pub few : length xs ≤ 32
-  pub rising : rising_by itemId 0 xs ≡ true
-  pub each : All (Good n ids) xs
+  pub rising : rising_by item_id 0 xs ≡ true
+  pub each : AllByRecursion (Good n ids) xs
 
 module _ (n : ℕ) (ids : List ℕ) (xs : List Item) (h : Items n ids xs) where
   pub items_weaker : (n' : ℕ) (ids' : List ℕ) → n ≤ n' → Within ids ids' → Items n' ids' xs
@@ -37,27 +37,27 @@ module _ (n : ℕ) (ids : List ℕ) (xs : List Item) (h : Items n ids xs) where
         each = All-weaker (Good n ids) (Good n' ids') (λ x g. let b = g.0 in (omega arith, w x.identity.subscription g.1, g.2, g.3)) xs h.each;
       }
 
-  pub items_replaced : (y : Item) → Good n ids y → Items n ids (replaced itemId y xs)
+  pub items_replaced : (y : Item) → Good n ids y → Items n ids (replaced item_id y xs)
   items_replaced y g =
       record {
-        few = let l = length_replaced itemId y xs in let f = h.few in omega arith;
-        rising = rising_replaced itemId 0 y xs ∙ h.rising;
-        each = all_replaced itemId (Good n ids) y xs h.each g;
+        few = let l = length_replaced item_id y xs in let f = h.few in omega arith;
+        rising = rising_replaced item_id 0 y xs ∙ h.rising;
+        each = all_replaced item_id (Good n ids) y xs h.each g;
       }
 
-  pub items_without : (k : ℕ) → Items n ids (without itemId k xs)
+  pub items_without : (k : ℕ) → Items n ids (without item_id k xs)
   items_without k =
       record {
-        few = let l = length_without itemId k xs in let f = h.few in omega arith;
-        rising = rising_without itemId 0 k xs h.rising;
-        each = all_without itemId (Good n ids) k xs h.each;
+        few = let l = length_without item_id k xs in let f = h.few in omega arith;
+        rising = rising_without item_id 0 k xs h.rising;
+        each = all_without item_id (Good n ids) k xs h.each;
       }
 
   pub items_others : (id : ℕ) → Items n (drops id ids) (others id xs)
   items_others id =
       record {
         few = let l = length_passing (λ x. not (belongs id x)) xs in let f = h.few in omega arith;
-        rising = rising_kept itemId (λ x. not (belongs id x)) 0 xs h.rising;
+        rising = rising_kept item_id (λ x. not (belongs id x)) 0 xs h.rising;
         each = all_passing (Good n ids) (Good n (drops id ids)) (λ x. not (belongs id x)) stays xs h.each;
       }
     where
@@ -68,21 +68,21 @@ module _ (n : ℕ) (ids : List ℕ) (xs : List Item) (h : Items n ids xs) where
   items_ticked stands =
       record {
         few = let l = length-map xs (ticked stands) in let f = h.few in omega arith;
-        rising = rising_map itemId (ticked stands) (ticked_id stands) 0 xs ∙ h.rising;
+        rising = rising_map item_id (ticked stands) (ticked_id stands) 0 xs ∙ h.rising;
         each = all_mapped (Good n ids) (Good n ids) (ticked stands) (good_ticked n ids stands) xs h.each;
       }
 
-  pub item_good : (k : ℕ) (x : Item) → lookup itemId k xs ≡ Some x → Good n ids x
-  item_good k x e = lookup_all itemId (Good n ids) k xs x h.each e
+  pub item_good : (k : ℕ) (x : Item) → lookup item_id k xs ≡ Some x → Good n ids x
+  item_good k x e = lookup_all item_id (Good n ids) k xs x h.each e
 
-pub below_all : (n : ℕ) (xs : List Item) → All (λ x. itemId x < n) xs → all_below n xs ≡ true
+pub below_all : (n : ℕ) (xs : List Item) → AllByRecursion (λ x. item_id x < n) xs → all_below n xs ≡ true
 below_all n [] a = refl
-below_all n (x ∷ xs) a = join (ltb (itemId x) n) (all_below n xs) (lt-ltb (itemId x) n a.0) (below_all n xs a.1)
+below_all n (x ∷ xs) a = join (ltb (item_id x) n) (all_below n xs) (lt-ltb (item_id x) n a.0) (below_all n xs a.1)
 
 -- a new item takes the id n
-pub items_push : (n : ℕ) (ids : List ℕ) (xs : List Item) (y : Item) → Items n ids xs → length xs < 32 → 1 ≤ n → itemId y ≡ n → Good (n + 1) ids y → Items (n + 1) ids (xs ++ y ∷ [])
+pub items_push : (n : ℕ) (ids : List ℕ) (xs : List Item) (y : Item) → Items n ids xs → length xs < 32 → 1 ≤ n → item_id y ≡ n → Good (n + 1) ids y → Items (n + 1) ids (xs ++ y ∷ [])
 items_push n ids xs y h l one e g =
-    let below = All-weaker (Good n ids) (λ x. itemId x < n) (λ x g. g.0) xs h.each in
+    let below = All-weaker (Good n ids) (λ x. item_id x < n) (λ x g. g.0) xs h.each in
     record {
       few = let k = length_push xs y in omega arith;
       rising = rising_push 0 y xs h.rising (omega arith) (subst (λ k. all_below k xs ≡ true) (sym e) (below_all n xs below));
@@ -90,8 +90,8 @@ items_push n ids xs y h l one e g =
     }
 
 -- the item that a call names
-pub item_found : (id k : ℕ) (xs : List Item) (x : Item) → item_in id k xs ≡ Some x → lookup itemId k xs ≡ Some x
-item_found id k xs x e = at (lookup itemId k xs) e
+pub item_found : (id k : ℕ) (xs : List Item) (x : Item) → item_in id k xs ≡ Some x → lookup item_id k xs ≡ Some x
+item_found id k xs x e = at (lookup item_id k xs) e
   where
     by : (b : Bool) (y : Item) → cond b (Some y) None ≡ Some x → Some y ≡ Some x
     by true y h = h
@@ -101,7 +101,7 @@ item_found id k xs x e = at (lookup itemId k xs) e
     at None h = absurd (none_some h)
     at (Some y) h = by (belongs id y) y h
 
-first_all : (P : Item → Type 0) (p : Item → Bool) (xs : List Item) (x : Item) → All P xs → first_by p xs ≡ Some x → P x
+first_all : (P : Item → Type 0) (p : Item → Bool) (xs : List Item) (x : Item) → AllByRecursion P xs → first_by p xs ≡ Some x → P x
 first_all P p [] x a e = absurd (none_some e)
 first_all P p (y ∷ xs) x a e = at (p y) e (first_all P p xs x a.1)
   where
@@ -110,7 +110,7 @@ first_all P p (y ∷ xs) x a e = at (p y) e (first_all P p xs x a.1)
     at false h ih = ih h
 
 -- whose turn it is stands in the list
-turn_all : (P : Item → Type 0) (s last : ℕ) (xs : List Item) (x : Item) → All P xs → next_turn s last xs ≡ Some x → P x
+turn_all : (P : Item → Type 0) (s last : ℕ) (xs : List Item) (x : Item) → AllByRecursion P xs → next_turn s last xs ≡ Some x → P x
 turn_all P s last xs x a e = at (first_by (waits_after s last) xs) refl e
   where
     at : (o : Option Item) → first_by (waits_after s last) xs ≡ o → or_else o (first_by (waits s) xs) ≡ Some x → P x
@@ -164,8 +164,8 @@ held s m k =
         few = m.few;
         rising = m.rising;
         each = All-weaker _ (Good s.next (live_ids s.subscriptions)) (λ x g. (g.0.0, g.0.1, g.1.0, g.1.1)) s.items
-            (all_both (λ x. (itemId x < s.next) × In x.identity.subscription (live_ids s.subscriptions)) (λ x. Newest x × Fitting x) s.items
-            (all_both (λ x. itemId x < s.next) (λ x. In x.identity.subscription (live_ids s.subscriptions)) s.items m.below m.owned)
+            (all_both (λ x. (item_id x < s.next) × In x.identity.subscription (live_ids s.subscriptions)) (λ x. Newest x × Fitting x) s.items
+            (all_both (λ x. item_id x < s.next) (λ x. In x.identity.subscription (live_ids s.subscriptions)) s.items m.below m.owned)
             (all_both Newest Fitting s.items m.newest m.fitting));
       };
       rows = record { order = k.rows; retained = k.retained };
@@ -181,7 +181,7 @@ monitored_held s h =
     record {
       few = h.items.few;
       rising = h.items.rising;
-      below = All-weaker (Good s.next ids) (λ x. itemId x < s.next) (λ x g. g.0) s.items a;
+      below = All-weaker (Good s.next ids) (λ x. item_id x < s.next) (λ x g. g.0) s.items a;
       owned = All-weaker (Good s.next ids) (λ x. In x.identity.subscription ids) (λ x g. g.1) s.items a;
       newest = All-weaker (Good s.next ids) Newest (λ x g. g.2) s.items a;
       fitting = All-weaker (Good s.next ids) Fitting (λ x g. g.3) s.items a;

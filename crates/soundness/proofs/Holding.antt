@@ -1,6 +1,6 @@
 -- Every call keeps the items and the kept messages of the live subscriptions.
 use Rattle.std.proofs.Common.{◌≡◌, ℕ, ◌+◌, Bool, true, false, cond, eqb, ltb, List, [], ◌∷◌, ◌++◌, length, ℤ, Some, None, Ok, Err, Option, Result, sym, refl, ◌∙◌, subst, arith}
-use Rattle.std.specs.List.{AllByRecursion as All}
+use Rattle.std.specs.List.{AllByRecursion}
 use Rattle.std.proofs.ByRecursion.{All-weaker}
 use Rattle.std.proofs.lemmas.Bool.{eqb-false}
 use Rattle.fifo.specs.Lists.{none, first, lookup, replaced, without}
@@ -80,7 +80,7 @@ module _ (s : State) (sound : Sound s) where
   now : HeldBy s
   now = held_sound s sound
 
-  limits : All Limited s.subscriptions
+  limits : AllByRecursion Limited s.subscriptions
   limits = All-weaker Bounded Limited (λ f b. b.2.1) s.subscriptions sound.published.bounded
 
   -- a live subscription is replaced by one with its id that is live too
@@ -194,7 +194,7 @@ module _ (s : State) (sound : Sound s) where
 -- what acknowledgements leave
 pub record Accepted (ids : List ℕ) (fs : List Figures) (kept : List Kept) : Type 0 where
   pub living : live_ids fs ≡ ids
-  pub limited : All Limited fs
+  pub limited : AllByRecursion Limited fs
   pub rows : Rows ids kept
 
 pub acknowledges : (a : Acknowledgement) (ids : List ℕ) (fs : List Figures) (kept : List Kept) → Accepted ids fs kept → Accepted ids (acknowledged a fs kept).subscriptions (acknowledged a fs kept).kept
@@ -216,7 +216,7 @@ acknowledges_all (a ∷ acks) ids fs kept h =
     acknowledges_all acks ids (acknowledged a fs kept).subscriptions (acknowledged a fs kept).kept (acknowledges a ids fs kept h)
 
 -- a request, of a state after its acknowledgements
-module _ (s : State) (now : HeldBy s) (limits : All Limited s.subscriptions) (handle : ℕ) where
+module _ (s : State) (now : HeldBy s) (limits : AllByRecursion Limited s.subscriptions) (handle : ℕ) where
   joined_live : (f : Figures) → alive f ≡ true → alive (joined f) ≡ true
   joined_live f a = late_live f.phase a
 

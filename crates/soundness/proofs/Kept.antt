@@ -1,6 +1,6 @@
 -- The kept messages of a subscription after a change.
 use Rattle.std.proofs.Common.{◌≡◌, ℕ, ◌<◌, ◌≤◌, Bool, true, false, cond, eqb, ltb, List, [], ◌∷◌, ◌++◌, map, length, is_some, Some, None, Option, sym, refl, ap, ◌∙◌, subst, arith}
-use Rattle.std.specs.List.{AllByRecursion as All}
+use Rattle.std.specs.List.{AllByRecursion}
 use Rattle.std.proofs.ByRecursion.{All-push}
 use Rattle.std.proofs.lemmas.List.{length_push, length-map, map_push}
 use Rattle.std.proofs.lemmas.Bool.{eqb-false, lt-ltb}
@@ -21,7 +21,7 @@ Filled m = (1 ≤ m.count) × (m.count ≤ 16)
 
 -- messages kept of one subscription
 abbrev pub Stored : List Message → Type 0
-Stored ms = (length ms ≤ 8) × Distinct (map number_of ms) × All Filled ms
+Stored ms = (length ms ≤ 8) × Distinct (map number_of ms) × AllByRecursion Filled ms
 
 pub stored_without : (n : ℕ) (ms : List Message) → Stored ms → Stored (without number_of n ms)
 stored_without n ms h =
@@ -36,7 +36,7 @@ keys_rest : (ms : List Message) → map number_of (rest ms) ≡ rest (map number
 keys_rest [] = refl
 keys_rest (m ∷ ms) = refl
 
-all_rest : (ms : List Message) → All Filled ms → All Filled (rest ms)
+all_rest : (ms : List Message) → AllByRecursion Filled ms → AllByRecursion Filled (rest ms)
 all_rest [] a = a
 all_rest (m ∷ ms) a = a.1
 
@@ -45,7 +45,7 @@ pub record Roomy (n : ℕ) (ms : List Message) : Type 0 where
   pub short : length ms < 8
   pub once : Distinct (map number_of ms)
   pub new : In n (map number_of ms) → ⊥
-  pub filled : All Filled ms
+  pub filled : AllByRecursion Filled ms
 
 roomy : (n : ℕ) (ms : List Message) → Stored ms → Roomy n (room_for n ms)
 roomy n ms h = at (is_some (lookup number_of n ms)) refl
@@ -92,7 +92,7 @@ stored_keeping m ms f h =
     )
 
 -- what is kept of a subscription
-pub stored_of : (id : ℕ) (rows : List Kept) → All Retained rows → Stored (kept_of id rows)
+pub stored_of : (id : ℕ) (rows : List Kept) → AllByRecursion Retained rows → Stored (kept_of id rows)
 stored_of id rows a = at (lookup subscription_of id rows) refl
   where
     at : (o : Option Kept) → lookup subscription_of id rows ≡ o → Stored (messages_of o)
@@ -102,7 +102,7 @@ stored_of id rows a = at (lookup subscription_of id rows) refl
 -- a row for each id, in order
 pub record Rows (ids : List ℕ) (kept : List Kept) : Type 0 where
   pub order : map subscription_of kept ≡ ids
-  pub retained : All Retained kept
+  pub retained : AllByRecursion Retained kept
 
 pub rows_changed : (ids : List ℕ) (kept : List Kept) (id : ℕ) (ms : List Message) → Stored ms → Rows ids kept → Rows ids (replaced subscription_of (row_with id ms) kept)
 rows_changed ids kept id ms s r =

@@ -1,6 +1,6 @@
 -- What the turn of a subscription leaves, and the turns of a tick one after another.
 use Rattle.std.proofs.Common.{◌≡◌, ℕ, ◌+◌, ◌<◌, ◌≤◌, Bool, true, false, cond, not, leb, ◌⊎◌, List, [], ◌∷◌, ◌++◌, map, sym, refl, ap, ◌∙◌, subst, inl, inr, append_assoc, arith}
-use Rattle.std.specs.List.{AllByRecursion as All}
+use Rattle.std.specs.List.{AllByRecursion}
 use Rattle.std.proofs.lemmas.List.{append-nil, map-append}
 use Rattle.std.proofs.lemmas.Bool.{true≢false, leb-false, or_parts, not-false}
 use Rattle.fifo.specs.Lists.{none}
@@ -177,13 +177,13 @@ module _ (f : Figures) (q : Shared) (b : Bounded f) where
 -- what the turns of fs leave
 pub record AllPassed (fs : List Figures) (hs late : List ℕ) (p : Pass) : Type 0 where
   pub ids : map id_of p.subscriptions ≡ map id_of fs
-  pub bounded : All Bounded p.subscriptions
+  pub bounded : AllByRecursion Bounded p.subscriptions
   pub once : Distinct p.shared.late
   -- those that joined the late list, in order
   pub more : List ℕ
   pub grown : p.shared.late ≡ late ++ more
   pub from : Within more (map id_of fs)
-  pub placed : All (Placed p.shared.late) p.subscriptions
+  pub placed : AllByRecursion (Placed p.shared.late) p.subscriptions
   pub calm : (p.shared.late ≡ []) ⊎ (p.shared.requests ≡ [])
   -- each response answers the oldest request that is left
   pub handles : map handle_of p.responses ++ p.shared.requests ≡ hs
@@ -194,7 +194,7 @@ handles_join xs ys rs rs' hs e d =
     ap (λ l. l ++ rs) (map-append handle_of xs ys) ∙ append_assoc (map handle_of xs) (map handle_of ys) rs ∙ ap (λ l. map handle_of xs ++ l) e ∙ d
 
 -- another subscription joins the late list
-placed_push : (late : List ℕ) (k : ℕ) (fs : List Figures) → All (Placed late) fs → (In k (map id_of fs) → ⊥) → All (Placed (late ++ k ∷ [])) fs
+placed_push : (late : List ℕ) (k : ℕ) (fs : List Figures) → AllByRecursion (Placed late) fs → (In k (map id_of fs) → ⊥) → AllByRecursion (Placed (late ++ k ∷ [])) fs
 placed_push late k [] a o = tt
 placed_push late k (f ∷ fs) a o = (
   ((λ p h. elim (in_push f.id k late h) [ inl x ↦ a.0.0 p x | inr e ↦ o (inl (sym e)) ]), (λ p. in_left f.id late (k ∷ []) (a.0.1 p)), a.0.2),
@@ -209,12 +209,12 @@ module _ (f : Figures) (fs : List Figures) (hs late : List ℕ) (o : In f.id (ma
       at (kept_place l e) = subst Distinct (sym l) once
       at (joined_late l p n z) = subst Distinct (sym l) (distinct_push late f.id once (pl.0 p))
 
-  placed_turn : (t : Passed) → Turned f hs late t → All (Placed late) fs → All (Placed t.shared.late) fs
+  placed_turn : (t : Passed) → Turned f hs late t → AllByRecursion (Placed late) fs → AllByRecursion (Placed t.shared.late) fs
   placed_turn t w a = at w.place
     where
-      at : Placing f.id f.phase late t → All (Placed t.shared.late) fs
-      at (kept_place l e) = subst (λ ks. All (Placed ks) fs) (sym l) a
-      at (joined_late l p n z) = subst (λ ks. All (Placed ks) fs) (sym l) (placed_push late f.id fs a o)
+      at : Placing f.id f.phase late t → AllByRecursion (Placed t.shared.late) fs
+      at (kept_place l e) = subst (λ ks. AllByRecursion (Placed ks) fs) (sym l) a
+      at (joined_late l p n z) = subst (λ ks. AllByRecursion (Placed ks) fs) (sym l) (placed_push late f.id fs a o)
 
   calm_turn : (t : Passed) → Turned f hs late t → (late ≡ []) ⊎ (hs ≡ []) → (t.shared.late ≡ []) ⊎ (t.shared.requests ≡ [])
   calm_turn t w c = at w.place c
@@ -276,7 +276,7 @@ module _ (f : Figures) (fs : List Figures) (hs late : List ℕ) (o : In f.id (ma
             handles = handles;
           }
 
-pub all_passed : (fs : List Figures) (q : Shared) → Distinct (map id_of fs) → All Bounded fs → Distinct q.late → All (Placed q.late) fs → (q.late ≡ []) ⊎ (q.requests ≡ []) →
+pub all_passed : (fs : List Figures) (q : Shared) → Distinct (map id_of fs) → AllByRecursion Bounded fs → Distinct q.late → AllByRecursion (Placed q.late) fs → (q.late ≡ []) ⊎ (q.requests ≡ []) →
     AllPassed fs q.requests q.late (passes_all fs q)
 all_passed [] q d b once a c =
     record { ids = refl; bounded = tt; once = once; more = []; grown = sym (append-nil q.late); from = λ k h. h; placed = tt; calm = c; handles = refl }

@@ -1,6 +1,6 @@
 -- Every step keeps what holds of the subscriptions, the requests and the late list.
 use Rattle.std.proofs.Common.{◌≡◌, ℕ, suc, ◌+◌, ◌<◌, ◌≤◌, Bool, true, ◌⊎◌, List, [], ◌∷◌, ◌++◌, map, length, ℤ, Some, None, Option, sym, refl, ap, ◌∙◌, subst, inl, inr, arith}
-use Rattle.std.specs.List.{AllByRecursion as All}
+use Rattle.std.specs.List.{AllByRecursion}
 use Rattle.std.proofs.lemmas.List.{length-map, length_push, length-append, map_push}
 use Rattle.std.proofs.ByRecursion.{All-weaker, All-push, All-map}
 use Rattle.std.proofs.lemmas.Bool.{true≢false}
@@ -390,7 +390,7 @@ published_passed s h p r =
     record {
       few = let n = same_length id_of p.subscriptions fs r.ids in let g = h.few in omega arith;
       rising = rising_keys id_of 0 p.subscriptions ∙ ap (rising_by (λ n. n) 0) r.ids ∙ sym (rising_keys id_of 0 fs) ∙ h.rising;
-      below = all_keys id_of (λ k. k < s.next) p.subscriptions (subst (All (λ k. k < s.next)) (sym r.ids) (All-map (λ k. k < s.next) id_of fs h.below));
+      below = all_keys id_of (λ k. k < s.next) p.subscriptions (subst (AllByRecursion (λ k. k < s.next)) (sym r.ids) (All-map (λ k. k < s.next) id_of fs h.below));
       bounded = r.bounded;
       once = r.once;
       known = λ k x. subst (In k) (sym r.ids) (elim (in_cases k s.late r.more (subst (In k) r.grown x)) [ inl a ↦ h.known k a | inr b ↦ r.from k b ]);

@@ -1,6 +1,6 @@
 -- What messages and the pass over the subscriptions do to items and kept messages.
 use Rattle.std.proofs.Common.{◌≡◌, ℕ, ◌+◌, ◌<◌, ◌≤◌, Bool, true, false, cond, ltb, leb, List, [], ◌∷◌, ◌++◌, length, sym, refl, ap, ◌∙◌, subst, inl, inr, append_assoc, arith}
-use Rattle.std.specs.List.{AllByRecursion as All}
+use Rattle.std.specs.List.{AllByRecursion}
 use Rattle.std.proofs.ByRecursion.{All-weaker, All-append}
 use Rattle.std.proofs.lemmas.List.{append-nil, length-map}
 use Rattle.std.proofs.lemmas.Bool.{ltb-true, true≢false}
@@ -191,20 +191,20 @@ module _ (n : ℕ) where
   after_first : (before : List ℕ) (g : Figures) (fs : List Figures) → before ++ live_ids (g ∷ fs) ≡ (before ++ live_id g) ++ live_ids fs
   after_first before g fs = ap (λ l. before ++ l) (live_first g fs) ∙ sym (append_assoc before (live_id g) (live_ids fs))
 
-  below_first : (b : ℕ) (before : List ℕ) (f g : Figures) → All (λ k. k ≤ b) before → b < f.id → g.id ≡ f.id → All (λ k. k ≤ f.id) (before ++ live_id g)
+  below_first : (b : ℕ) (before : List ℕ) (f g : Figures) → AllByRecursion (λ k. k ≤ b) before → b < f.id → g.id ≡ f.id → AllByRecursion (λ k. k ≤ f.id) (before ++ live_id g)
   below_first b before f g a l i = All-append (λ k. k ≤ f.id) before (live_id g) (All-weaker (λ k. k ≤ b) (λ k. k ≤ f.id) (λ k h. omega arith) before a) (at (alive g))
     where
-      at : (t : Bool) → All (λ k. k ≤ f.id) (cond t (g.id ∷ []) [])
+      at : (t : Bool) → AllByRecursion (λ k. k ≤ f.id) (cond t (g.id ∷ []) [])
       at true = (omega arith, tt)
       at false = tt
 
-  not_before : (b k : ℕ) (before : List ℕ) → All (λ j. j ≤ b) before → b < k → In k before → ⊥
+  not_before : (b k : ℕ) (before : List ℕ) → AllByRecursion (λ j. j ≤ b) before → b < k → In k before → ⊥
   not_before b k [] a l h = h
   not_before b k (x ∷ before) a l (inl e) = let u = a.0 in omega arith
   not_before b k (x ∷ before) a l (inr h) = not_before b k before a.1 l h
 
   -- what the pass over one leaves, for those behind it
-  step : (b : ℕ) (before : List ℕ) (f : Figures) (fs : List Figures) (q : Shared) (p : Passed) → All (λ k. k ≤ b) before → b < f.id → Passing f q p
+  step : (b : ℕ) (before : List ℕ) (f : Figures) (fs : List Figures) (q : Shared) (p : Passed) → AllByRecursion (λ k. k ≤ b) before → b < f.id → Passing f q p
       → Held n (before ++ live_ids (f ∷ fs)) q.items q.kept → (p.figures.id ≡ f.id) × Held n ((before ++ live_id p.figures) ++ live_ids fs) p.shared.items p.shared.kept
   step b before f fs q p a l (stays p' i v h) held = (
     i,
@@ -222,7 +222,7 @@ module _ (n : ℕ) where
         held_ids n (drops g.id ids) ((before ++ live_id g) ++ live_ids fs) _ _ x (held_dropped n ids q.items q.kept g.id held),
       )
 
-  pub passed_held : (b : ℕ) (before : List ℕ) (fs : List Figures) (q : Shared) → All (λ k. k ≤ b) before → rising_by id_of b fs ≡ true → All Limited fs → Held n (before ++ live_ids fs) q.items q.kept
+  pub passed_held : (b : ℕ) (before : List ℕ) (fs : List Figures) (q : Shared) → AllByRecursion (λ k. k ≤ b) before → rising_by id_of b fs ≡ true → AllByRecursion Limited fs → Held n (before ++ live_ids fs) q.items q.kept
       → Held n (before ++ live_ids (passes_all fs q).subscriptions) (passes_all fs q).shared.items (passes_all fs q).shared.kept
   passed_held b before [] q a r l h = h
   passed_held b before (f ∷ fs) q a r l h =

@@ -15,17 +15,17 @@ loop-i-preserved c =
     let m = c.index-items-i.result in
     let l : i < length (map item_of (take c.args.len xs)) = simp (length-map, length-take) (omega (arith, c.requires)) in
     ap (λ k. position_by p (take k (map item_of (take c.args.len xs)))) (add-one i)
-    ∙ passed_by p (map item_of (take c.args.len xs)) i (item_of m) l c.loop-i.invariant (ap p (seen xs c.args.len i m c.loop-i-test.true c.requires c.index-items-i.is) ∙ sym c.if-waits-after.ensures)
+    ∙ passed_by p (map item_of (take c.args.len xs)) i (item_of m) l c.loop-i.invariant (ap p (seen xs c.args.len i m c.loop-i-test.true c.requires c.index-items-i.is) ∙ sym c.if-waits_after.ensures)
 
-pub returns-then-waits-after : goal.returns-then-waits-after
-returns-then-waits-after c =
+pub returns-then-waits_after : goal.returns-then-waits_after
+returns-then-waits_after c =
     let p = waits_after c.args.subscription c.args.last in
     let xs = c.args.items.now in
     let i = c.loop-i.i in
     let m = c.index-items-i.result in
     let l : i < length (map item_of (take c.args.len xs)) = simp (length-map, length-take) (omega (arith, c.requires)) in
     record {
-      value = sym (stops_at p (map item_of (take c.args.len xs)) i (item_of m) l c.loop-i.invariant (ap p (seen xs c.args.len i m c.loop-i-test.true c.requires c.index-items-i.is) ∙ sym c.if-waits-after.ensures));
+      value = sym (stops_at p (map item_of (take c.args.len xs)) i (item_of m) l c.loop-i.invariant (ap p (seen xs c.args.len i m c.loop-i-test.true c.requires c.index-items-i.is) ∙ sym c.if-waits_after.ensures));
       bound = c.loop-i-test.true;
     }
 

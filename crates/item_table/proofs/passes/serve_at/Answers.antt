@@ -7,7 +7,7 @@ returns-in-Some c =
     let r = c.index-items-i-2.result in
     record {
       value = place_sent xs c.args.i r c.requires c.index-items-i.result c.in-Some.notification c.in-Some.ensures.value;
-      after = place_served xs c.args.i r c.requires c.take-oldest.new.self c.take-oldest.ensures.after;
+      after = place_served xs c.args.i r c.requires c.take_oldest.new.self c.take_oldest.ensures.after;
     }
 
 pub returns-in-None : goal.returns-in-None
@@ -16,5 +16,5 @@ returns-in-None c =
     let r = c.index-items-i-2.result in
     record {
       value = place_empty xs c.args.i r c.requires c.in-None.ensures.value;
-      after = place_served xs c.args.i r c.requires c.take-oldest.new.self c.take-oldest.ensures.after;
+      after = place_served xs c.args.i r c.requires c.take_oldest.new.self c.take_oldest.ensures.after;
     }

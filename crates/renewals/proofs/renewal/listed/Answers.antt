@@ -1,5 +1,5 @@
 use Rattle.std.proofs.Common.{◌≡◌, ℕ, ◌+◌, ◌<◌, List, [], ◌∷◌, ◌++◌, map, length, get_or, take, vec_items, sym, ap, ◌∙◌, subst}
-use Rattle.std.specs.List.{AllByRecursion as All}
+use Rattle.std.specs.List.{AllByRecursion}
 use Rattle.std.proofs.lemmas.List.{take_all, map_more}
 use Rattle.std.proofs.ByRecursion.{All-get_or}
 use Rattle.sources.specs.declared.rows.Expiry.{Expiry}
@@ -13,7 +13,7 @@ pub entry-of-requires : goal.entry-of-requires
 entry-of-requires c =
     let s = c.args.certificates.now in
     All-get_or (λ row. ShowsDays (standing_at s row.node)) c.dated-rows-rows.result.now c.loop-row.row-index no_row c.loop-row-test.true
-    (subst (All (λ row. ShowsDays (standing_at s row.node))) (sym c.dated-rows-rows.ensures.value) c.dated-rows-rows.ensures.known)
+    (subst (AllByRecursion (λ row. ShowsDays (standing_at s row.node))) (sym c.dated-rows-rows.ensures.value) c.dated-rows-rows.ensures.known)
 
 pushed : {X Y : Type 0} (f : X → Y) (xs : List X) (i : ℕ) (d : X) (before after : List Y) (y : Y) → i < length xs → after ≡ before ++ y ∷ [] → before ≡ map f (take i xs) → y ≡ f (get_or xs i d) → after ≡ map f (take (i + 1) xs)
 pushed f xs i d before after y l p q r = p ∙ (λ k. q k ++ r k ∷ []) ∙ sym (map_more f xs i d l)

@@ -9,9 +9,6 @@ use Rattle.item_table.proofs.table.ItemTable.push.Goals as goal
 pub push-requires : goal.push-requires
 push-requires c = omega (arith, items_length c.args.self.now, c.requires.room, c.args.self.now.whole)
 
-pub invariant-of-self : goal.invariant-of-self
-invariant-of-self c =
-    let t = c.args.self.now in (
-      omega (arith, items_length t, c.requires.room),
-      (search rules, (ap rising c.push.ensures ∙ rising_push 0 (item_of c.args.item) (items_of t) t.ordered c.requires.id c.requires.above, tt)),
-    )
+pub invariant_of-self : goal.invariant_of-self
+invariant_of-self c =
+    let t = c.args.self.now in record { few = omega (arith, items_length t, c.requires.room); whole = search rules; ordered = ap rising c.push.ensures ∙ rising_push 0 (item_of c.args.item) (items_of t) t.ordered c.requires.id c.requires.above }

@@ -5,7 +5,7 @@ use Rattle.item_table.specs.Table.{items_of}
 use Rattle.item_table.proofs.Orders.{rising_replaced}
 use Rattle.item_table.proofs.table.ItemTable.replace.Goals as goal
 
-pub invariant-of-self : goal.invariant-of-self
-invariant-of-self c =
+pub invariant_of-self : goal.invariant_of-self
+invariant_of-self c =
     let t = c.args.self.now in
-    (t.few, (search rules, (ap rising c.replace.ensures ∙ rising_replaced id_of 0 _ (items_of t) ∙ t.ordered, tt)))
+    record { few = t.few; whole = search rules; ordered = ap rising c.replace.ensures ∙ rising_replaced id_of 0 _ (items_of t) ∙ t.ordered }
