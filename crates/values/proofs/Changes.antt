@@ -12,7 +12,7 @@ use Rattle.values.specs.declared.filter.Deadband.{Deadband}
 use Rattle.values.specs.declared.filter.Deadband.TheVariants.{None, Absolute}
 use Rattle.values.specs.Beyond.{exactly, NotBelowZero, beyond_int}
 use Rattle.values.specs.Filters.{allowed, width, width_of}
-use Rattle.values.specs.Change.{int_eq, value_changed, time_changed, triggered, changed}
+use Rattle.values.specs.Change.{int_eq, value_changed, time_changed, triggered}
 use Rattle.values.specs.Laws.{NoChangeAgainstItself, OrderDoesNotMatter}
 use Rattle.values.proofs.Exact.{turned}
 use Rattle.values.specs.Swap.{itself, either}

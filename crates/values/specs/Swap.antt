@@ -1,5 +1,5 @@
 -- The two laws of `beyond_double`.
-use Rattle.std.specs.Prelude.{◌≡◌, ℕ, ◌*◌, Bool, true, false, cond, eqb, refl, Float}
+use Rattle.std.specs.Prelude.{◌≡◌, ℕ, ◌*◌, Bool, true, false, cond, refl, Float}
 use Rattle.std.proofs.Common.{arith, eq-eqb}
 use Rattle.std.specs.Float.{nan, inf, fin, binary64}
 use Rattle.std.specs.Float.Ieee.{is_nan, lt, eq, level, below, up, down, sub}
