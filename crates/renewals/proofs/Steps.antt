@@ -1,12 +1,11 @@
 -- What each byte does to a reading.
-use Rattle.std.proofs.Common.{◌≡◌, ℕ, ◌+◌, ◌-◌, Bool, true, false, cond, eqb, List, [], ◌∷◌, ◌++◌, fold, refl, ap, ◌∙◌, arith}
+use Rattle.std.proofs.Common.{◌≡◌, ℕ, ◌-◌, Bool, true, false, cond, eqb, List, [], ◌∷◌, ◌++◌, fold, refl, ap, ◌∙◌, arith}
 use Rattle.std.proofs.lemmas.Bool.{eqb-true}
 use Rattle.std.proofs.lemmas.Bool.Decides.{nat_tests}
 use Rattle.renewals.specs.declared.line.Line.{Line}
-use Rattle.renewals.specs.declared.line.Line.TheVariants as line
 use Rattle.renewals.specs.declared.line.Reading.{Reading}
 use Rattle.renewals.specs.declared.line.Reading.TheVariants.{Ended, Unreadable}
-use Rattle.renewals.specs.Line.{is_digit, is_blank, on_digit, on_blank, on_return, step, reading}
+use Rattle.renewals.specs.Line.{is_digit, is_blank, on_digit, on_blank, on_return, step}
 
 pub not_both : (b : ℕ) → is_blank b ≡ true → is_digit b ≡ false
 not_both b e = grind (arith, nat_tests)

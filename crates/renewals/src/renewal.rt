@@ -56,7 +56,7 @@ fn sorted(mut entries: Vec<Remaining>) -> Vec<Remaining>
     ensures shuffled { IsPermutation entries.items result.items }
     ensures ordered { InOrder result.items }
 {
-    entries.sort();
+    entries.sort_unstable();
     entries
 }
 
