@@ -15,17 +15,17 @@ minus_inf_is : of_bits binary64 18442240474082181120 ≡ inf true
 unfolding of_bits
 minus_inf_is = refl
 
-pub returns-then-is-text : goal.returns-then-is-text
+pub returns-then-is_text : goal.returns-then-is_text
 unfolding exact_of
-returns-then-is-text c = search (rules, nan_is)
+returns-then-is_text c = search (rules, nan_is)
 
-pub returns-then-is-text-2 : goal.returns-then-is-text-2
+pub returns-then-is_text-2 : goal.returns-then-is_text-2
 unfolding exact_of
-returns-then-is-text-2 c = search (rules, inf_is)
+returns-then-is_text-2 c = search (rules, inf_is)
 
-pub returns-then-is-text-3 : goal.returns-then-is-text-3
+pub returns-then-is_text-3 : goal.returns-then-is_text-3
 unfolding exact_of
-returns-then-is-text-3 c = search (rules, minus_inf_is)
+returns-then-is_text-3 c = search (rules, minus_inf_is)
 
 pub returns-in-Some : goal.returns-in-Some
 unfolding exact_of

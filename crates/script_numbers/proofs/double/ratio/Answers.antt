@@ -13,9 +13,9 @@ returns c =
     let n-le : n ≤ 2 ^ 53 = omega arith in
     let k-le : k ≤ 15 = omega arith in
     let s : 10 ^ k ≤ 10 ^ 15 = pow-le-pow_right (lit< tt) k-le in
-    let scale : c.nearest-u64-to-f64-2.result ≡ of_int binary64 (pos (10 ^ k)) = search rules in
-    let t : div binary64 c.nearest-u64-to-f64.result c.nearest-u64-to-f64-2.result ≡ round binary64 false n (10 ^ k) =
-    ap (λ x. div binary64 x c.nearest-u64-to-f64-2.result) c.nearest-u64-to-f64.ensures
+    let scale : c.nearest_u64_to_f64-2.result ≡ of_int binary64 (pos (10 ^ k)) = search rules in
+    let t : div binary64 c.nearest_u64_to_f64.result c.nearest_u64_to_f64-2.result ≡ round binary64 false n (10 ^ k) =
+    ap (λ x. div binary64 x c.nearest_u64_to_f64-2.result) c.nearest_u64_to_f64.ensures
     ∙ ap (div binary64 (of_int binary64 (pos n))) scale
     ∙ quotient n (10 ^ k) n-le (omega arith) (one-le-pow k 10 (lit< tt)) in
     ap Some t

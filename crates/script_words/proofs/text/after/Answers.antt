@@ -6,5 +6,5 @@ use Rattle.std.proofs.lemmas.Bool.Decides.{Decides-eqb}
 
 pub returns : goal.returns
 returns c =
-    stripped c.args.prefix.now c.args.word.now c.strip-prefix.result
-    (strip_prefix_is Decides-eqb c.args.word.now c.args.prefix.now c.strip-prefix.result c.strip-prefix.ensures.cases)
+    stripped c.args.prefix.now c.args.word.now c.strip_prefix.result
+    (strip_prefix_is Decides-eqb c.args.word.now c.args.prefix.now c.strip_prefix.result c.strip_prefix.ensures.cases)

@@ -6,4 +6,4 @@ use Rattle.script_words.proofs.words.word.Given as goal
 abbrev pub invariant-loop-passed : goal.invariant-loop-passed
 invariant-loop-passed l =
     (l.at ≤ length l.content)
-    × (get_or (words_in (drop l.at l.content)) (l.index - l.-passed) [] ≡ get_or (words_in l.content) l.index [])
+    × (get_or (words_in (drop l.at l.content)) (l.index - l._passed) [] ≡ get_or (words_in l.content) l.index [])
