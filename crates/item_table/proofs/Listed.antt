@@ -1,5 +1,5 @@
 -- The places of the table and the list of items that they stand for.
-use Rattle.std.proofs.Common.{◌≡◌, ℕ, ◌-◌, ◌<◌, ◌≤◌, Bool, true, false, cond, not, List, [], ◌∷◌, map, length, get_or, take, set, Some, None, filter, sym, refl, ap, ◌∙◌, arith, length-take}
+use Rattle.std.proofs.Common.{◌≡◌, ℕ, ◌<◌, ◌≤◌, Bool, true, false, cond, List, [], ◌∷◌, map, length, get_or, take, set, Some, None, filter, sym, refl, ap, ◌∙◌, arith, length-take}
 use Rattle.std.proofs.lemmas.List.{length-map, get_or-map, get_or-take, get_or_default, map-set, take-map}
 use Rattle.fifo.proofs.Keys.{set_taken}
 use Rattle.items.specs.declared.item.MonitoredItem.{MonitoredItem}
@@ -8,7 +8,6 @@ use Rattle.values.specs.declared.notification.Notification.{Notification}
 use Rattle.std.specs.Option.{option_map}
 use Rattle.item_table.specs.Turn.{serving, served_by}
 use Rattle.items.specs.Keys.{id_of_item}
-use Rattle.items.specs.Keys.{id_of}
 use Rattle.item_table.specs.Table.{items_of}
 use Rattle.item_table.specs.declared.table.ItemTable.{ItemTable}
 

@@ -8,7 +8,7 @@ use Rattle.items.specs.declared.item.Mode.{Mode}
 use Rattle.items.specs.declared.item.Mode.TheVariants.{Disabled, Sampling, Reporting}
 use Rattle.items.specs.Item.{Item, ticked, by_mode, counted, accepts}
 use Rattle.items.specs.Keys.{id_of}
-use Rattle.item_table.specs.Rising.{rising_by, rising}
+use Rattle.item_table.specs.Rising.{rising_by}
 use Rattle.item_table.specs.Table.{all_below}
 
 pub both : (t r : Bool) → cond t r false ≡ true → (t ≡ true) × (r ≡ true)

@@ -1,7 +1,6 @@
 -- The figures at the edges of items.
 use Rattle.std.specs.Prelude.{◌≡◌, ℕ, Bool, true, false, List, [], ◌∷◌, pos}
 use Rattle.values.specs.declared.value.Kind.TheVariants as kind
-use Rattle.values.specs.declared.value.Value.TheVariants.{Int32}
 use Rattle.values.specs.declared.checked.CheckedFilter.{CheckedFilter}
 use Rattle.values.specs.Beyond.{exactly}
 use Rattle.values.specs.Edges.{with_absolute, int}

@@ -1,5 +1,5 @@
 -- The laws over every run from a new engine.
-use Rattle.std.specs.Prelude.{◌≡◌, ℕ, ◌+◌, ◌≤◌, Bool, true, false, cond, ◌⊎◌, List, [], ◌∷◌, ◌++◌, map, length, Some, None, Option, ◌==◌}
+use Rattle.std.specs.Prelude.{◌≡◌, ℕ, ◌+◌, ◌≤◌, Bool, true, false, ◌⊎◌, List, [], ◌∷◌, ◌++◌, map, length, Some, None, Option, ◌==◌}
 use Rattle.fifo.specs.Lists.{rest, without}
 use Rattle.values.specs.declared.value.Sample.{Sample}
 use Rattle.values.specs.declared.notification.Notification.{Notification}
@@ -19,7 +19,7 @@ use Rattle.model.specs.State.{State, new_state}
 use Rattle.model.specs.Steps.{Event, Joined, Started, Sampled, Sent}
 use Rattle.model.specs.Tick.{Shared, passes, passes_all, shared_of, sampled_state, enabled_mode}
 use Rattle.model.specs.Sound.{In}
-use Rattle.laws.specs.Runs.{Call, CreateSubscription, ModifySubscription, SetPublishingMode, DeleteSubscription, CreateItem, ModifyItem, DeleteItem, SetMonitoringMode, Publish, Republish, Tick, Scene, Done, called, final, responses, events, asked, asked_by, shows, answered, deleted}
+use Rattle.laws.specs.Runs.{Call, CreateSubscription, ModifySubscription, SetPublishingMode, DeleteSubscription, CreateItem, ModifyItem, DeleteItem, SetMonitoringMode, Publish, Republish, Tick, Scene, Done, called, final, responses, events, asked, shows, answered, deleted}
 
 -- 1. The handles in all responses, in order, followed by those still queued, are exactly the handles of the accepted Publish
 -- calls, in order.

@@ -1,5 +1,5 @@
 -- Runs of calls.
-use Rattle.std.specs.Prelude.{ℕ, ◌+◌, Bool, true, false, cond, ◌||◌, List, [], ◌∷◌, ◌++◌, map, ℤ, Ok, Err, Result, ◌==◌}
+use Rattle.std.specs.Prelude.{ℕ, Bool, true, false, cond, ◌||◌, List, [], ◌∷◌, ◌++◌, ℤ, Ok, Err, Result, ◌==◌}
 use Rattle.sources.specs.declared.source.Standing.{Standing}
 use Rattle.messages.specs.declared.response.Response.{Response}
 use Rattle.answers.specs.declared.fault.ServiceFault.{ServiceFault}

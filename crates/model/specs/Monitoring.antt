@@ -1,5 +1,5 @@
 -- The calls on monitored items, each as a step. Each sets the subscription's idle count to 0.
-use Rattle.std.specs.Prelude.{ℕ, ◌+◌, Bool, true, false, cond, List, [], ◌∷◌, ◌++◌, length, Ok, Err, Result, ◌==◌, nat_lt}
+use Rattle.std.specs.Prelude.{ℕ, ◌+◌, cond, List, [], ◌∷◌, ◌++◌, length, Ok, Err, Result, ◌==◌, nat_lt}
 use Rattle.fifo.specs.Lists.{replaced, without}
 use Rattle.values.specs.declared.value.Kind.{Kind}
 use Rattle.values.specs.declared.checked.CheckedFilter.{CheckedFilter}
@@ -12,7 +12,6 @@ use Rattle.subscriptions.specs.Keys.{id_of}
 use Rattle.subscriptions.specs.Changes.{named}
 use Rattle.items.specs.declared.item.Mode.{Mode}
 use Rattle.items.specs.declared.item.Mode.TheVariants.{Disabled, Sampling, Reporting}
-use Rattle.items.specs.declared.item.Identity.{Identity}
 use Rattle.items.specs.declared.item.Settings.{Settings}
 use Rattle.items.specs.declared.fault.ItemFault.{ItemFault}
 use Rattle.items.specs.declared.fault.ItemFault.TheVariants.{Filter}

@@ -14,7 +14,7 @@ use Rattle.answers.specs.declared.acknowledgement.Acknowledgement.{Acknowledgeme
 use Rattle.answers.specs.declared.acknowledgement.AcknowledgementResult.{AcknowledgementResult}
 use Rattle.answers.specs.declared.acknowledgement.AcknowledgementResult.TheVariants.{Good, SubscriptionIdInvalid, SequenceNumberUnknown}
 use Rattle.model.specs.State.{State, live_in, with_requests}
-use Rattle.model.specs.Steps.{Event, Joined, Step, refused, sends}
+use Rattle.model.specs.Steps.{Joined, Step, refused, sends}
 use Rattle.model.specs.Messages.{Sending, message}
 
 -- the subscriptions and kept messages after an acknowledgement, and what it came to

@@ -1,7 +1,6 @@
 -- Republish: a kept message once more.
 use Rattle.std.specs.Prelude.{ℕ, [], Some, None, Ok, Err, Option, Result}
 use Rattle.fifo.specs.Lists.{lookup, replaced}
-use Rattle.subscriptions.specs.declared.figures.Figures.{Figures}
 use Rattle.subscriptions.specs.Keys.{id_of}
 use Rattle.subscriptions.specs.Changes.{named}
 use Rattle.messages.specs.declared.message.Message.{Message}

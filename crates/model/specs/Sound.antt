@@ -10,7 +10,6 @@ use Rattle.items.specs.declared.waiting.Waiting.{Waiting}
 use Rattle.items.specs.Item.{Item}
 use Rattle.items.specs.Keys.{id_of as item_id}
 use Rattle.item_table.specs.Rising.{rising_by}
-use Rattle.messages.specs.declared.message.Message.{Message}
 use Rattle.messages.specs.Messages.{number_of}
 use Rattle.retransmission.specs.Rows.{Kept, subscription_of}
 use Rattle.model.specs.State.{State}

@@ -1,8 +1,7 @@
 -- The calls on subscriptions, each as a step.
-use Rattle.std.specs.Prelude.{ℕ, ◌+◌, Bool, true, false, cond, List, [], ◌∷◌, ◌++◌, map, length, ℤ, ◌==◌, nat_lt}
+use Rattle.std.specs.Prelude.{ℕ, ◌+◌, Bool, true, false, cond, [], ◌∷◌, ◌++◌, map, length, ℤ, ◌==◌, nat_lt}
 use Rattle.fifo.specs.Lists.{none, replaced, without}
 use Rattle.subscriptions.specs.declared.figures.Figures.{Figures}
-use Rattle.subscriptions.specs.declared.figures.Revised.{Revised}
 use Rattle.subscriptions.specs.Keys.{id_of}
 use Rattle.subscriptions.specs.Changes.{created, modified, publishing}
 use Rattle.subscriptions.specs.Revision.{revision, answer_of}

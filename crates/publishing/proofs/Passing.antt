@@ -15,7 +15,7 @@ use Rattle.retransmission.specs.Rows.{Kept}
 use Rattle.messages.specs.declared.response.Response.{Response}
 use Rattle.model.specs.State.{State}
 use Rattle.model.specs.Messages.{Sending, message}
-use Rattle.model.specs.Tick.{Shared, Passed, Pass, messages, onward, still_due, acts, asked, cycles, counts, passes_live, passes, passes_all, passes_at, passed, shared_of, leaves}
+use Rattle.model.specs.Tick.{Shared, Passed, Pass, messages, onward, still_due, acts, asked, counts, passes_live, passes, passes_all, passes_at, passed, shared_of, leaves}
 
 -- no more is sent than requests are taken, and at most one id joins the late list
 abbrev Sized : Passed → List ℕ → List ℕ → Type 0

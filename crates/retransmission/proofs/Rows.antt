@@ -7,7 +7,7 @@ use Rattle.fifo.proofs.Keys.{key_position, lookup_position, lookup_none, lookup_
 use Rattle.messages.specs.declared.message.Message.{Message}
 use Rattle.retransmission.specs.declared.kept.Retransmission.{Retransmission}
 use Rattle.retransmission.specs.Kept.{kept_in}
-use Rattle.retransmission.specs.Rows.{shown, subscription_of, row_with, rows, kept_of, messages_of}
+use Rattle.retransmission.specs.Rows.{shown, subscription_of, row_with, kept_of, messages_of}
 
 abbrev pub key : Retransmission → ℕ
 key r = subscription_of (shown r)

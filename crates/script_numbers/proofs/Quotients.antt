@@ -1,7 +1,7 @@
 -- A quotient of two whole numbers that are Doubles exactly.
-use Rattle.std.proofs.Common.{◌≡◌, ℕ, zero, suc, ◌+◌, ◌-◌, ◌*◌, ◌^◌, ◌<◌, ◌≤◌, Bool, true, false, cond, eqb, pos, sym, refl, ap, ◌∙◌, subst, mul_assoc, mul_comm, mul-pos, zero-mul, mul-one, arith}
+use Rattle.std.proofs.Common.{◌≡◌, ℕ, ◌*◌, ◌^◌, ◌<◌, ◌≤◌, Bool, true, false, cond, eqb, pos, sym, refl, ap, ◌∙◌, subst, mul_assoc, mul_comm, mul-pos, zero-mul, mul-one, arith}
 use Rattle.std.proofs.lemmas.Bool.{eqb-true}
-use lib.Ieee.{Float, nan, inf, fin, Format, binary64, round, of_int, div, up, down, unlike}
+use lib.Ieee.{Float, nan, inf, fin, binary64, round, of_int, div, up, down, unlike}
 use lib.Ieee.Exact.{HasValue}
 use lib.Ieee.Back.{round_whole}
 use lib.Ieee.Scale.{round_same}

@@ -1,9 +1,8 @@
 -- Lists of records by their keys.
-use Rattle.std.proofs.Common.{◌≡◌, ℕ, suc, ◌≤◌, Bool, true, false, cond, eqb, List, [], ◌∷◌, map, length, is_some, Some, None, filter, sym, refl, ap, ◌∙◌, subst, inl, inr, arith}
+use Rattle.std.proofs.Common.{◌≡◌, ℕ, suc, ◌≤◌, Bool, true, false, cond, eqb, List, [], ◌∷◌, map, length, is_some, Some, filter, sym, refl, inl, inr, arith}
 use Rattle.std.specs.List.{AllByRecursion}
-use Rattle.std.proofs.lemmas.List.{length-map}
 use Rattle.std.proofs.lemmas.Bool.{eqb-true, eqb-false, true≢false}
-use Rattle.fifo.specs.Lists.{lookup, replaced, without}
+use Rattle.fifo.specs.Lists.{lookup}
 use Rattle.model.specs.Sound.{In}
 
 pub some_same : {X : Type 0} (x y : X) → Some x ≡ Some y → x ≡ y

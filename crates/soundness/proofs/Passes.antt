@@ -1,5 +1,5 @@
 -- What the turn of a subscription leaves, and the turns of a tick one after another.
-use Rattle.std.proofs.Common.{◌≡◌, ℕ, ◌+◌, ◌<◌, ◌≤◌, Bool, true, false, cond, not, leb, ◌⊎◌, List, [], ◌∷◌, ◌++◌, map, sym, refl, ap, ◌∙◌, subst, inl, inr, append_assoc, arith}
+use Rattle.std.proofs.Common.{◌≡◌, ℕ, ◌+◌, ◌<◌, ◌≤◌, Bool, true, false, cond, leb, ◌⊎◌, List, [], ◌∷◌, ◌++◌, map, sym, refl, ap, ◌∙◌, subst, inl, inr, append_assoc, arith}
 use Rattle.std.specs.List.{AllByRecursion}
 use Rattle.std.proofs.lemmas.List.{append-nil, map-append}
 use Rattle.std.proofs.lemmas.Bool.{true≢false, leb-false, or_parts, not-false}
@@ -15,7 +15,7 @@ use Rattle.items.specs.Item.{Item}
 use Rattle.messages.specs.declared.response.Response.{Response}
 use Rattle.retransmission.specs.Rows.{Kept}
 use Rattle.model.specs.Messages.{message}
-use Rattle.model.specs.Tick.{Shared, shared, Passed, Pass, asked, passes, passes_all, then}
+use Rattle.model.specs.Tick.{Shared, Passed, Pass, asked, passes, passes_all, then}
 use Rattle.model.specs.Sound.{In, Distinct, Within, Bounded, Placed}
 use Rattle.soundness.proofs.Members.{in_left, in_cases, in_push, in_last, distinct_push, none_empty, tail_empty}
 use Rattle.soundness.proofs.Bounds.{messaged_bounded, counted_bounded, joined_prompt, joined_live, joined_bounded}

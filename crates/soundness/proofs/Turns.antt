@@ -1,5 +1,5 @@
 -- A message, and the turn of a subscription in a tick, by their cases.
-use Rattle.std.proofs.Common.{◌≡◌, ℕ, ◌+◌, ◌<◌, Bool, true, false, cond, not, leb, ◌⊎◌, List, [], ◌∷◌, sym, refl, ap, ◌∙◌, inl, inr, arith}
+use Rattle.std.proofs.Common.{◌≡◌, ℕ, ◌+◌, ◌<◌, Bool, true, false, cond, leb, ◌⊎◌, List, [], ◌∷◌, sym, refl, ap, ◌∙◌, inl, inr, arith}
 use Rattle.std.proofs.lemmas.Bool.{true≢false, leb-true, leb-false}
 use Rattle.fifo.specs.Lists.{none}
 use Rattle.subscriptions.specs.declared.figures.Figures.{Figures}
@@ -8,7 +8,7 @@ use Rattle.subscriptions.specs.declared.figures.Phase.TheVariants.{Fresh, Quiet,
 use Rattle.subscriptions.specs.declared.figures.Outcome.TheVariants.{Rests, Sends, Joins, Ends}
 use Rattle.subscriptions.specs.Facts.{prompt, live}
 use Rattle.subscriptions.specs.Changes.{standing, messaged, joined, runs, counted_down}
-use Rattle.subscriptions.specs.Cycle.{Cycled, due, cycle, step1, step3}
+use Rattle.subscriptions.specs.Cycle.{Cycled, due, step1, step3}
 use Rattle.items.specs.Item.{Item}
 use Rattle.item_table.specs.Turn.{any_waits}
 use Rattle.messages.specs.declared.response.Response.{Response}

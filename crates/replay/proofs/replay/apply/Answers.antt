@@ -11,10 +11,10 @@ returns-in-CreateSubscription g c =
     let scene = c.args.scene.now in
     let s = state_in c.args.engine.now in
     let w = c.in-CreateSubscription in
-    let h : state_in c.create-subscription.new.self ≡ (create_subscription s w.milliseconds w.keep-alive w.lifetime w.limit w.enabled).state = search rules in
+    let h : state_in c.create_subscription.new.self ≡ (create_subscription s w.milliseconds w.keep_alive w.lifetime w.limit w.enabled).state = search rules in
     record {
-      after = after_as stands scene _ s (state_in c.create-subscription.new.self) w.is h;
-      log = silent stands scene _ s (vec_items c.args.log.now) w.is (quiet_create_subscription s w.milliseconds w.keep-alive w.lifetime w.limit w.enabled);
+      after = after_as stands scene _ s (state_in c.create_subscription.new.self) w.is h;
+      log = silent stands scene _ s (vec_items c.args.log.now) w.is (quiet_create_subscription s w.milliseconds w.keep_alive w.lifetime w.limit w.enabled);
     }
 
 pub returns-in-ModifySubscription : goal.returns-in-ModifySubscription
@@ -23,10 +23,10 @@ returns-in-ModifySubscription g c =
     let scene = c.args.scene.now in
     let s = state_in c.args.engine.now in
     let w = c.in-ModifySubscription in
-    let h : state_in c.modify-subscription.new.self ≡ (modify_subscription s w.id w.milliseconds w.keep-alive w.lifetime w.limit).state = search rules in
+    let h : state_in c.modify_subscription.new.self ≡ (modify_subscription s w.id w.milliseconds w.keep_alive w.lifetime w.limit).state = search rules in
     record {
-      after = after_as stands scene _ s (state_in c.modify-subscription.new.self) w.is h;
-      log = silent stands scene _ s (vec_items c.args.log.now) w.is (quiet_modify_subscription s w.id w.milliseconds w.keep-alive w.lifetime w.limit);
+      after = after_as stands scene _ s (state_in c.modify_subscription.new.self) w.is h;
+      log = silent stands scene _ s (vec_items c.args.log.now) w.is (quiet_modify_subscription s w.id w.milliseconds w.keep_alive w.lifetime w.limit);
     }
 
 pub returns-in-SetPublishingMode : goal.returns-in-SetPublishingMode
@@ -36,7 +36,7 @@ returns-in-SetPublishingMode g c =
     let s = state_in c.args.engine.now in
     let w = c.in-SetPublishingMode in
     record {
-      after = after_as stands scene _ s _ w.is c.set-publishing-mode.ensures.after;
+      after = after_as stands scene _ s _ w.is c.set_publishing_mode.ensures.after;
       log = silent stands scene _ s (vec_items c.args.log.now) w.is (quiet_set_publishing s w.id w.enabled);
     }
 
@@ -47,7 +47,7 @@ returns-in-CreateItem g c =
     let s = state_in c.args.engine.now in
     let w = c.in-CreateItem in
     record {
-      after = after_as stands scene _ s _ w.is c.create-item.ensures.after;
+      after = after_as stands scene _ s _ w.is c.create_item.ensures.after;
       log = silent stands scene _ s (vec_items c.args.log.now) w.is (quiet_create_item (stands scene.source) s w.subscription w.node w.mode w.parameters);
     }
 
@@ -58,7 +58,7 @@ returns-in-ModifyItem g c =
     let s = state_in c.args.engine.now in
     let w = c.in-ModifyItem in
     record {
-      after = after_as stands scene _ s _ w.is c.modify-item.ensures.after;
+      after = after_as stands scene _ s _ w.is c.modify_item.ensures.after;
       log = silent stands scene _ s (vec_items c.args.log.now) w.is (quiet_modify_item s w.subscription w.item w.parameters);
     }
 
@@ -69,7 +69,7 @@ returns-in-DeleteItem g c =
     let s = state_in c.args.engine.now in
     let w = c.in-DeleteItem in
     record {
-      after = after_as stands scene _ s _ w.is c.delete-item.ensures.after;
+      after = after_as stands scene _ s _ w.is c.delete_item.ensures.after;
       log = silent stands scene _ s (vec_items c.args.log.now) w.is (quiet_delete_item s w.subscription w.item);
     }
 
@@ -80,7 +80,7 @@ returns-in-SetMonitoringMode g c =
     let s = state_in c.args.engine.now in
     let w = c.in-SetMonitoringMode in
     record {
-      after = after_as stands scene _ s _ w.is c.set-monitoring-mode.ensures.after;
+      after = after_as stands scene _ s _ w.is c.set_monitoring_mode.ensures.after;
       log = silent stands scene _ s (vec_items c.args.log.now) w.is (quiet_set_mode s w.subscription w.item w.mode);
     }
 

@@ -9,8 +9,8 @@ append-requires c =
     let s = state_in c.args.engine.now in
     let id = c.args.id in
     let room = length c.args.responses.now in
-    within (delete_subscription s id room) (counted_delete s id room) c.args.responses.now c.delete-subscription-answer.new.responses
-    c.delete-subscription-answer.ensures.responses c.delete-subscription-answer.result c.delete-subscription-answer.ensures.value
+    within (delete_subscription s id room) (counted_delete s id room) c.args.responses.now c.delete_subscription-answer.new.responses
+    c.delete_subscription-answer.ensures.responses c.delete_subscription-answer.result c.delete_subscription-answer.ensures.value
 
 pub returns : goal.returns
 returns c =
@@ -18,9 +18,9 @@ returns c =
     let id = c.args.id in
     let room = length c.args.responses.now in
     record {
-      after = made_since c.append.result (λ _. state_in c.delete-subscription-answer.new.self ≡ (delete_subscription s id room).state) (λ _. c.delete-subscription-answer.ensures.after);
+      after = made_since c.append.result (λ _. state_in c.delete_subscription-answer.new.self ≡ (delete_subscription s id room).state) (λ _. c.delete_subscription-answer.ensures.after);
       log =
-          logged (delete_subscription s id room) (counted_delete s id room) c.args.responses.now c.delete-subscription-answer.new.responses
-          c.delete-subscription-answer.ensures.responses c.delete-subscription-answer.result c.delete-subscription-answer.ensures.value
+          logged (delete_subscription s id room) (counted_delete s id room) c.args.responses.now c.delete_subscription-answer.new.responses
+          c.delete_subscription-answer.ensures.responses c.delete_subscription-answer.result c.delete_subscription-answer.ensures.value
           c.append.result (vec_items c.args.log.now) (vec_items c.append.new.log) c.append.ensures;
     }

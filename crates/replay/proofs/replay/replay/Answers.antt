@@ -7,13 +7,13 @@ use Rattle.replay.proofs.replay.replay.Goals as goal
 
 pub loop-scene-preserved : goal.loop-scene-preserved
 loop-scene-preserved g c =
-    ran (scene_of g.S.Source.stands) c.args.first-id c.args.scenes.now c.loop-scene.scene-index c.scene-item.result
+    ran (scene_of g.S.Source.stands) c.args.first_id c.args.scenes.now c.loop-scene.scene-index c.scene-item.result
     (state_in c.loop-scene.engine) (state_in c.apply.new.engine) (vec_items c.loop-scene.log) (vec_items c.apply.new.log)
-    c.loop-scene.invariant (omega arith) c.scene-item.is c.in-ok-apply.ensures.after c.in-ok-apply.ensures.log
+    c.loop-scene.invariant (omega arith) c.scene-item.is c.in_ok-apply.ensures.after c.in_ok-apply.ensures.log
 
-pub returns-in-err-apply : goal.returns-in-err-apply
-returns-in-err-apply g c = IfOk-from_err c.from-residual.result _ c.from-residual.ensures.0
+pub returns-in_err-apply : goal.returns-in_err-apply
+returns-in_err-apply g c = IfOk-from_err c.from_residual.result _ c.from_residual.ensures.0
 
 pub returns : goal.returns
 returns g c =
-    comes (scene_of g.S.Source.stands) c.args.first-id c.args.scenes.now c.loop-scene.scene-index (state_in c.loop-scene.engine) (vec_items c.loop-scene.log) c.loop-scene.invariant (omega arith)
+    comes (scene_of g.S.Source.stands) c.args.first_id c.args.scenes.now c.loop-scene.scene-index (state_in c.loop-scene.engine) (vec_items c.loop-scene.log) c.loop-scene.invariant (omega arith)

@@ -6,5 +6,5 @@ use Rattle.replay.proofs.replay.replay.Given as goal
 
 abbrev pub invariant-loop-scene : goal.invariant-loop-scene
 invariant-loop-scene g l =
-    Replaying l.first-id (map (scene_of g.S.Source.stands) l.scenes) (map (scene_of g.S.Source.stands) (drop l.scene-index l.scenes))
+    Replaying l.first_id (map (scene_of g.S.Source.stands) l.scenes) (map (scene_of g.S.Source.stands) (drop l.scene-index l.scenes))
     (state_in l.engine) (vec_items l.log)

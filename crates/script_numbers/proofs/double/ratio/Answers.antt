@@ -1,6 +1,6 @@
-use Rattle.std.proofs.Common.{◌≡◌, ℕ, ◌^◌, ◌<◌, ◌≤◌, true, false, cond, leb, pos, Some, None, sym, ap, ◌∙◌, arith, lit<, lit≤, rules}
+use Rattle.std.proofs.Common.{◌≡◌, ◌^◌, ◌≤◌, true, false, cond, leb, pos, Some, None, sym, ap, ◌∙◌, arith, lit<, rules}
 use native.Mathlib.Nat.{pow-le-pow_right, one-le-pow}
-use lib.Ieee.{Float, binary64, round, of_int, div}
+use lib.Ieee.{binary64, round, of_int, div}
 use Rattle.script_numbers.proofs.Quotients.{quotient}
 use Rattle.script_numbers.proofs.double.ratio.Goals as goal
 

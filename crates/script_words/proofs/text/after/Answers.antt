@@ -1,4 +1,3 @@
-use Rattle.std.proofs.Common.{rules}
 use Rattle.std.proofs.lemmas.Slice.Eq.{strip_prefix_is}
 use Rattle.script_words.proofs.Rests.{stripped}
 use Rattle.script_words.proofs.text.after.Goals as goal

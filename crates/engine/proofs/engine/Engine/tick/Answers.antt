@@ -6,5 +6,5 @@ use Rattle.engine.proofs.engine.Engine.tick.Goals as goal
 pub tick-requires : goal.tick-requires
 tick-requires g c = few (state_of c.args.self.now.state) c.args.self.now.sound
 
-pub invariant-of-self : goal.invariant-of-self
-invariant-of-self g c = (keeps _ _ _ c.args.self.now.sound (λ h. sound_tick _ h _ _) c.tick.ensures.after, tt)
+pub invariant_of-self : goal.invariant_of-self
+invariant_of-self g c = record { sound = keeps _ _ _ c.args.self.now.sound (λ h. sound_tick _ h _ _) c.tick.ensures.after }

@@ -1,4 +1,4 @@
-use Rattle.std.proofs.Common.{true, leb, sym, leb-true}
+use Rattle.std.proofs.Common.{sym, leb-true}
 use Rattle.sources.specs.Rows.{node_of_expiry, day_fits}
 use Rattle.sources.specs.Certificates.{certificate_rows}
 use Rattle.sources.specs.Puts.{every_lookup}
