@@ -2,7 +2,7 @@
 use mathlib.Core.Path.{◌≡◌, sym, subst}
 use mathlib.Core.Bool.{true, Bool-set}
 use mathlib.Core.Logic.{∥∥₁_map, ∥∥₁_elim}
-use Prim.Native.Nat.{ℕ, ◌≤◌}
+use Prim.Native.Nat.{◌≤◌}
 use native.Mathlib.Bridge.{le_prop}
 use lib.ListN.{length}
 use Rattle.item_table.specs.Table.{all_below}

@@ -1,8 +1,8 @@
 -- The acknowledgements, word by word.
-use Rattle.std.proofs.Common.{◌≡◌, ℕ, zero, suc, ◌+◌, ◌<◌, ◌≤◌, Bool, true, false, cond, eqb, List, [], ◌∷◌, ◌++◌, length, get_or, drop, Some, None, Ok, Err, Option, Result, sym, refl, ap, ◌∙◌, true≢false, append_assoc, append-nil, arith}
+use Rattle.std.proofs.Common.{◌≡◌, ℕ, zero, suc, ◌+◌, ◌<◌, ◌≤◌, Bool, true, false, cond, eqb, List, [], ◌∷◌, ◌++◌, length, get_or, drop, Some, None, Ok, Err, Result, sym, refl, ap, ◌∙◌, true≢false, append_assoc, append-nil, arith}
 use Rattle.std.proofs.lemmas.List.{at_drop_more, at_drop_all, get_or_past, length-append}
 use Rattle.answers.specs.declared.acknowledgement.Acknowledgement.{Acknowledgement}
-use Rattle.script_words.specs.Words.{is_blank, ended, words_from, words_in}
+use Rattle.script_words.specs.Words.{is_blank, ended, words_from}
 use Rattle.scripts.specs.Arguments.{acknowledgement_of, with_first, acknowledgements_of}
 use Rattle.scripts.specs.declared.expected.Expected.{Expected}
 use Rattle.scripts.specs.declared.expected.Expected.TheVariants as expected

@@ -1,5 +1,5 @@
 -- The command that a list of words says.
-use Rattle.std.specs.Prelude.{ℕ, ◌+◌, Bool, true, false, cond, List, [], ◌∷◌, length, drop, Some, None, Ok, Err, vec_items, codes, Option, Result, ◌==◌, Float}
+use Rattle.std.specs.Prelude.{ℕ, ◌+◌, cond, List, length, drop, Some, None, Ok, Err, vec_items, codes, Option, Result, ◌==◌, Float}
 use Rattle.std.specs.Option.{ok_or}
 use Rattle.answers.specs.declared.acknowledgement.Acknowledgement.{Acknowledgement}
 use Rattle.model.specs.declared.parameters.MonitoringParameters.{MonitoringParameters}
