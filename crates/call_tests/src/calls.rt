@@ -153,7 +153,7 @@ fn sent_kept_and_acknowledged(rt: HostRuntime) {
     assert!(rt; results[0].status() == 0);
     assert!(rt; results[1].status() == 0x807A_0000 && results[2].status() == 0x8028_0000);
     assert!(rt; refused(engine.republish(100, 1, &mut message)) == (5, 1));
-    assert!(rt; engine.queued_handles() == [2]);
+    assert!(rt; engine.queued_handles() == [2].as_slice());
 }
 
 // Whether a tick sends nothing.
