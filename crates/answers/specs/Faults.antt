@@ -1,15 +1,15 @@
--- The number, layer, place and status code of each fault.
-use Rattle.std.specs.Prelude.{ℕ, Some, None, Option}
+-- The number, layer, place, status code and name of each fault.
+use Rattle.std.specs.Prelude.{ℕ, List, codes, Some, None, Option}
 use Rattle.values.specs.declared.fault.Layer.TheVariants as layer
 use Rattle.values.specs.declared.fault.Refusal.{Refusal}
 use Rattle.values.specs.declared.fault.FilterFault.{FilterFault}
 use Rattle.values.specs.declared.fault.FilterFault.TheVariants.{MonitoredItemFilterInvalid, DeadbandFilterInvalid, FilterNotAllowed}
 use Rattle.items.specs.declared.fault.ItemFault.{ItemFault}
 use Rattle.items.specs.declared.fault.ItemFault.TheVariants.{MonitoredItemIdInvalid, MonitoringModeInvalid, Filter}
-use Rattle.items.specs.Faults.{item_refusal}
+use Rattle.items.specs.Faults.{item_refusal, item_fault_name}
 use Rattle.sources.specs.declared.fault.SourceFault.{SourceFault}
 use Rattle.sources.specs.declared.fault.SourceFault.TheVariants.{TableFull, TypeMismatch, OutOfRange}
-use Rattle.sources.specs.Faults.{source_refusal}
+use Rattle.sources.specs.Faults.{source_refusal, source_fault_name}
 use Rattle.answers.specs.declared.fault.ServiceFault.{ServiceFault}
 use Rattle.answers.specs.declared.fault.ServiceFault.TheVariants.{ListTooShort, TooManyOperations, SubscriptionIdInvalid, MessageNotAvailable, TooManySubscriptions, TooManyMonitoredItems, IdsUsedUp, NodeIdUnknown, Item, Source}
 
@@ -53,3 +53,16 @@ service_status IdsUsedUp = None
 service_status (NodeIdUnknown n) = Some 0x80340000
 service_status (Item e) = Some (item_status e)
 service_status (Source e) = source_status e
+
+-- the name of OPC UA Part 4, where there is one
+abbrev pub fault_name : ServiceFault → List ℕ
+fault_name ListTooShort = codes "list_too_short"
+fault_name TooManyOperations = codes "Bad_TooManyOperations"
+fault_name (SubscriptionIdInvalid id) = codes "Bad_SubscriptionIdInvalid"
+fault_name (MessageNotAvailable n) = codes "Bad_MessageNotAvailable"
+fault_name TooManySubscriptions = codes "Bad_TooManySubscriptions"
+fault_name TooManyMonitoredItems = codes "Bad_TooManyMonitoredItems"
+fault_name IdsUsedUp = codes "ids_used_up"
+fault_name (NodeIdUnknown n) = codes "Bad_NodeIdUnknown"
+fault_name (Item e) = item_fault_name e
+fault_name (Source e) = source_fault_name e

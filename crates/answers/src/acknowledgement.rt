@@ -1,5 +1,7 @@
-ghost use Rattle.std.specs.Prelude.{◌≡◌};
-ghost use Rattle.answers.specs.Acknowledgements.{acknowledgement_status};
+ghost use Rattle.std.specs.Prelude.{◌≡◌, Some};
+ghost use Rattle.answers.specs.Acknowledgements.{acknowledgement_status, acknowledgement_name};
+
+use std::fmt;
 
 // A message that a client has received: its subscription and its sequence number.
 #[derive(Clone, Copy)]
@@ -8,7 +10,8 @@ pub struct Acknowledgement {
     pub number: u32,
 }
 
-// What an acknowledgement comes to.
+// What an acknowledgement comes to. An enum and no Result: a list of these holds status codes, and Good is one of them, with
+// a code and a name of its own.
 #[derive(Clone, Copy)]
 pub enum AcknowledgementResult {
     Good,
@@ -26,5 +29,24 @@ impl AcknowledgementResult {
             AcknowledgementResult::SubscriptionIdInvalid => 0x8028_0000,
             AcknowledgementResult::SequenceNumberUnknown => 0x807A_0000,
         }
+    }
+
+    // The status name of OPC UA Part 4.
+    pub fn name(self) -> &'static str
+        ensures { result.now ≡ acknowledgement_name self }
+    {
+        match self {
+            AcknowledgementResult::Good => "Good",
+            AcknowledgementResult::SubscriptionIdInvalid => "Bad_SubscriptionIdInvalid",
+            AcknowledgementResult::SequenceNumberUnknown => "Bad_SequenceNumberUnknown",
+        }
+    }
+}
+
+impl fmt::Display for AcknowledgementResult {
+    ghost output = { λ r. Some (acknowledgement_name r) };
+
+    fn fmt<W: fmt::Write>(&self, f: &mut fmt::Formatter<W>) -> fmt::Result {
+        f.write_str(self.name())
     }
 }

@@ -1,12 +1,14 @@
-ghost use Rattle.std.specs.Prelude.{◌≡◌};
+ghost use Rattle.std.specs.Prelude.{◌≡◌, Some};
 ghost use Rattle.answers.specs.declared.fault.ServiceFault.TheVariants.{Item, Source};
-ghost use Rattle.answers.specs.Faults.{service_refusal, service_status};
+ghost use Rattle.answers.specs.Faults.{service_refusal, service_status, fault_name};
 
 use items::fault::ItemFault;
 use sources::fault::SourceFault;
+use std::fmt;
 use values::fault::{FilterFault, Layer, Refusal};
 
-// Why a call is refused: a fault of the service itself, or an item's or a source's fault as it came.
+// Why a call is refused: a fault of the service itself, or an item's or a source's fault as it came. Each fault enum has a
+// `refusal` and a `name` of its own, and no trait stands over them: no code takes a fault of any kind.
 #[derive(Clone, Copy)]
 pub enum ServiceFault {
     ListTooShort,
@@ -21,6 +23,7 @@ pub enum ServiceFault {
     Source(SourceFault),
 }
 
+// Both by hand: a derived `From` has no contract, and clauses name the error that `?` makes.
 impl From<ItemFault> for ServiceFault {
     ghost from_gives = { λ e r. r ≡ Item e };
 
@@ -92,5 +95,31 @@ impl ServiceFault {
             ServiceFault::Source(SourceFault::TypeMismatch(_)) => Some(0x8074_0000),
             ServiceFault::Source(SourceFault::OutOfRange(_)) => Some(0x803C_0000),
         }
+    }
+
+    // The status name of OPC UA Part 4, where there is one.
+    pub fn name(&self) -> &'static str
+        ensures { result.now ≡ fault_name self.now }
+    {
+        match self {
+            ServiceFault::ListTooShort => "list_too_short",
+            ServiceFault::TooManyOperations => "Bad_TooManyOperations",
+            ServiceFault::SubscriptionIdInvalid(_) => "Bad_SubscriptionIdInvalid",
+            ServiceFault::MessageNotAvailable(_) => "Bad_MessageNotAvailable",
+            ServiceFault::TooManySubscriptions => "Bad_TooManySubscriptions",
+            ServiceFault::TooManyMonitoredItems => "Bad_TooManyMonitoredItems",
+            ServiceFault::IdsUsedUp => "ids_used_up",
+            ServiceFault::NodeIdUnknown(_) => "Bad_NodeIdUnknown",
+            ServiceFault::Item(fault) => fault.name(),
+            ServiceFault::Source(fault) => fault.name(),
+        }
+    }
+}
+
+impl fmt::Display for ServiceFault {
+    ghost output = { λ e. Some (fault_name e) };
+
+    fn fmt<W: fmt::Write>(&self, f: &mut fmt::Formatter<W>) -> fmt::Result {
+        f.write_str(self.name())
     }
 }

@@ -13,12 +13,9 @@ use std::{env, io};
 // Today's day and the number of days.
 fn arguments(rt: &HostRuntime) -> Option<(u32, u32)> {
     let mut args = env::args(rt).ok()?.skip(1);
-    let today = args.next()?.parse::<u32>().ok()?;
-    let limit = args.next()?.parse::<u32>().ok()?;
-    if args.next().is_some() {
-        return None;
-    }
-    Some((today, limit))
+    let today = args.next()?.parse().ok()?;
+    let limit = args.next()?.parse().ok()?;
+    args.next().is_none().then_some((today, limit))
 }
 
 // Enters each line. A line that is not entered is reported where it is met, and the rest goes on. Lines are split as
@@ -26,9 +23,8 @@ fn arguments(rt: &HostRuntime) -> Option<(u32, u32)> {
 fn read_entries(rt: &HostRuntime, certificates: &mut Certificates) -> io::Result<()> {
     let lines = BufReader::new(rt.alloc(), rt.stdin())?.split(rt.alloc(), b'\n');
     for (i, line) in lines.enumerate() {
-        if let Err(problem) = enter_line(certificates, line?.as_slice()) {
-            let number = i + 1;
-            println!(rt; "line {number}: {problem}")?;
+        if let Err(problem) = enter_line(certificates, &line?) {
+            println!(rt; "line {}: {problem}", i + 1)?;
         }
     }
     Ok(())
@@ -36,13 +32,11 @@ fn read_entries(rt: &HostRuntime, certificates: &mut Certificates) -> io::Result
 
 fn print_list(rt: &HostRuntime, certificates: &Certificates, limit: u32) -> io::Result<()> {
     let entries = remaining(rt.alloc(), certificates)?;
-    for entry in entries.iter() {
-        let node = entry.node;
-        let days_left = entry.days_left;
-        let mark = verdict(days_left, limit).mark();
-        println!(rt; "{node} {days_left}{mark}")?;
+    for entry in &entries {
+        let verdict = verdict(entry.days_left, limit);
+        println!(rt; "{} {}{verdict}", entry.node, entry.days_left)?;
     }
-    rt.println(counts(entries.as_slice(), limit))
+    rt.println(counts(&entries, limit))
 }
 
 fn main(rt: HostRuntime) -> anyhow::Result<()> {

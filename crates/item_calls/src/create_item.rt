@@ -7,13 +7,12 @@ use crate::settings::settings;
 use answers::fault::ServiceFault;
 use items::fault::check_item;
 use items::item::{Identity, MonitoredItem};
-use model::live::find_live;
 use model::parameters::MonitoringParameters;
+use model::revised::{CreatedItem, RevisedItem};
 use model::state::EngineState;
 use sources::source::{Source, Standing};
 
-// A new item on a node that the source knows; returns its id, its sampling interval in ticks and
-// its queue size.
+// A new item on a node that the source knows; returns its id and its revised parameters.
 pub fn create_item<S: Source>(
     state: &mut EngineState,
     source: &S,
@@ -21,26 +20,19 @@ pub fn create_item<S: Source>(
     node: u32,
     mode: u32,
     parameters: &MonitoringParameters,
-) -> Result<(u32, u32, u32), ServiceFault>
+) -> Result<CreatedItem, ServiceFault>
     requires below { all_below state.old.next_id (items_of state.old.items) ≡ true }
     requires given { 1 ≤ state.old.next_id }
     ensures after { state_of state.new ≡ (create_item (S.Source.stands source.now) (state_of state.old) subscription node mode parameters.now).state }
     ensures value { result ≡ (create_item (S.Source.stands source.now) (state_of state.old) subscription node mode parameters.now).answer }
 {
-    let Some(mut owner) = find_live(state, subscription) else {
-        return Err(ServiceFault::SubscriptionIdInvalid(subscription));
-    };
+    let owner = state.live_subscription(subscription)?;
     if state.items.is_full() {
         return Err(ServiceFault::TooManyMonitoredItems);
     }
-    if state.next_id > 4_294_967_295 {
-        return Err(ServiceFault::IdsUsedUp);
-    }
-    let Standing::Known(kind, _) = source.query(node) else {
-        return Err(ServiceFault::NodeIdUnknown(node));
-    };
+    let id = u32::try_from(state.next_id).map_err(|_| ServiceFault::IdsUsedUp)?;
+    let Standing { kind, .. } = source.query(node).ok_or(ServiceFault::NodeIdUnknown(node))?;
     let (mode, filter) = check_item(mode, &parameters.filter, kind, node)?;
-    let id = state.next_id as u32;
     let item = MonitoredItem::new(
         Identity {
             id,
@@ -54,7 +46,9 @@ pub fn create_item<S: Source>(
     );
     state.next_id += 1;
     state.items.add(item);
-    owner.reset_idle();
-    state.subscriptions.replace(owner);
-    Ok((id, item.settings.interval, item.queue.size()))
+    state.reset_idle(owner);
+    Ok(CreatedItem {
+        id,
+        revised: RevisedItem::of(&item),
+    })
 }

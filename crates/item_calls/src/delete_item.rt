@@ -3,8 +3,6 @@ ghost use Rattle.model.specs.State.{state_of};
 ghost use Rattle.model.specs.Monitoring.{delete_item};
 
 use answers::fault::ServiceFault;
-use items::fault::ItemFault;
-use model::live::find_live;
 use model::state::EngineState;
 
 // The item goes, with what waits of it.
@@ -16,14 +14,9 @@ pub fn delete_item(
     ensures after { state_of state.new ≡ (delete_item (state_of state.old) subscription item).state }
     ensures value { result ≡ (delete_item (state_of state.old) subscription item).answer }
 {
-    let Some(mut owner) = find_live(state, subscription) else {
-        return Err(ServiceFault::SubscriptionIdInvalid(subscription));
-    };
-    let Some(_) = state.items.find(subscription, item) else {
-        return Err(ServiceFault::Item(ItemFault::MonitoredItemIdInvalid(item)));
-    };
+    let owner = state.live_subscription(subscription)?;
+    state.item(subscription, item)?;
     state.items.remove(item);
-    owner.reset_idle();
-    state.subscriptions.replace(owner);
+    state.reset_idle(owner);
     Ok(())
 }

@@ -6,8 +6,8 @@ ghost use Rattle.model.specs.Monitoring.{modify_item, of_item};
 use crate::settings::settings;
 use answers::fault::ServiceFault;
 use items::fault::ItemFault;
-use model::live::find_live;
 use model::parameters::MonitoringParameters;
+use model::revised::RevisedItem;
 use model::state::EngineState;
 use values::check::RequestedFilter;
 use values::checked::CheckedFilter;
@@ -21,27 +21,21 @@ fn check_filter(filter: &RequestedFilter, kind: Kind, item: u32) -> Result<Check
     Ok(filter)
 }
 
-// Other settings of an item, which starts again; returns its sampling interval in ticks and its
-// queue size.
+// Other settings of an item, which starts again; returns its revised parameters.
 pub fn modify_item(
     state: &mut EngineState,
     subscription: u32,
     item: u32,
     parameters: &MonitoringParameters,
-) -> Result<(u32, u32), ServiceFault>
+) -> Result<RevisedItem, ServiceFault>
     ensures after { state_of state.new ≡ (modify_item (state_of state.old) subscription item parameters.now).state }
     ensures value { result ≡ (modify_item (state_of state.old) subscription item parameters.now).answer }
 {
-    let Some(mut owner) = find_live(state, subscription) else {
-        return Err(ServiceFault::SubscriptionIdInvalid(subscription));
-    };
-    let Some(mut found) = state.items.find(subscription, item) else {
-        return Err(ServiceFault::Item(ItemFault::MonitoredItemIdInvalid(item)));
-    };
+    let owner = state.live_subscription(subscription)?;
+    let mut found = state.item(subscription, item)?;
     let filter = check_filter(&parameters.filter, found.identity.kind, item)?;
     found.modify(settings(parameters, filter, &owner), parameters.queue_size);
     state.items.replace(found);
-    owner.reset_idle();
-    state.subscriptions.replace(owner);
-    Ok((found.settings.interval, found.queue.size()))
+    state.reset_idle(owner);
+    Ok(RevisedItem::of(&found))
 }

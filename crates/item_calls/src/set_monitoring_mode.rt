@@ -3,9 +3,7 @@ ghost use Rattle.model.specs.State.{state_of};
 ghost use Rattle.model.specs.Monitoring.{set_monitoring_mode};
 
 use answers::fault::ServiceFault;
-use items::fault::ItemFault;
 use items::item::Mode;
-use model::live::find_live;
 use model::state::EngineState;
 
 // Another mode of an item.
@@ -18,16 +16,11 @@ pub fn set_monitoring_mode(
     ensures after { state_of state.new ≡ (set_monitoring_mode (state_of state.old) subscription item mode).state }
     ensures value { result ≡ (set_monitoring_mode (state_of state.old) subscription item mode).answer }
 {
-    let Some(mut owner) = find_live(state, subscription) else {
-        return Err(ServiceFault::SubscriptionIdInvalid(subscription));
-    };
-    let Some(mut found) = state.items.find(subscription, item) else {
-        return Err(ServiceFault::Item(ItemFault::MonitoredItemIdInvalid(item)));
-    };
+    let owner = state.live_subscription(subscription)?;
+    let mut found = state.item(subscription, item)?;
     let mode = Mode::check(mode, item)?;
     found.set_mode(mode);
     state.items.replace(found);
-    owner.reset_idle();
-    state.subscriptions.replace(owner);
+    state.reset_idle(owner);
     Ok(())
 }

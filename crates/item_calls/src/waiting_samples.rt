@@ -4,9 +4,7 @@ ghost use Rattle.model.specs.State.{state_of};
 ghost use Rattle.model.specs.Queries.{shown_by, samples_waiting};
 
 use answers::fault::ServiceFault;
-use items::fault::ItemFault;
 use items::waiting::WaitingQueue;
-use model::live::find_live;
 use model::state::EngineState;
 
 // The waiting samples of an item, oldest first.
@@ -17,11 +15,7 @@ pub fn waiting_samples(
 ) -> Result<WaitingQueue, ServiceFault>
     ensures { shown_by waiting_of result ≡ samples_waiting (state_of state.now) subscription item }
 {
-    let Some(_) = find_live(state, subscription) else {
-        return Err(ServiceFault::SubscriptionIdInvalid(subscription));
-    };
-    let Some(found) = state.items.find(subscription, item) else {
-        return Err(ServiceFault::Item(ItemFault::MonitoredItemIdInvalid(item)));
-    };
+    state.live_subscription(subscription)?;
+    let found = state.item(subscription, item)?;
     Ok(found.queue)
 }

@@ -1,5 +1,5 @@
 -- Lists by rising key stay so.
-use Rattle.std.proofs.Common.{◌≡◌, ℕ, zero, suc, ◌<◌, ◌≤◌, Bool, true, false, cond, eqb, ltb, leb, List, [], ◌∷◌, ◌++◌, map, length, get_or, Some, filter, sym, refl, ap, ◌∙◌, arith, ltb-true, lt-ltb, eq-eqb, ne_eqb, eqb-true}
+use Rattle.std.proofs.Common.{◌≡◌, ℕ, zero, suc, ◌<◌, ◌≤◌, Bool, true, false, cond, eqb, ltb, leb, List, [], ◌∷◌, ◌++◌, map, length, get_or, Some, filter, sym, refl, ap, ◌∙◌, arith, ltb-true, lt-ltb, eq-eqb, ne_eqb, eqb-true, Option}
 use Rattle.std.specs.Option.{option_map}
 use Rattle.fifo.specs.Lists.{position, replaced, without}
 use Rattle.sources.specs.declared.source.Standing.{Standing}
@@ -62,7 +62,7 @@ rising_push b y (x ∷ xs) h l a =
     join (ltb b (id_of x)) _ p.0 (rising_push (id_of x) y xs p.1 (ltb-true (id_of x) (id_of y) q.0) q.1)
 
 -- a tick keeps an item's id
-pub ticked_id : (stands : ℕ → Standing) (x : Item) → id_of (ticked stands x) ≡ id_of x
+pub ticked_id : (stands : ℕ → Option Standing) (x : Item) → id_of (ticked stands x) ≡ id_of x
 ticked_id stands x = mode x.mode
   where
     offers : (t : Bool) (y z : Item) → id_of y ≡ id_of x → id_of z ≡ id_of x → id_of (cond t y z) ≡ id_of x

@@ -1,5 +1,4 @@
 pub mod Rising
 pub mod Table
 pub mod Turn
-pub mod Places
 pub mod Fair

@@ -1,12 +1,13 @@
 -- The items of the table as a list.
-use Rattle.std.specs.Prelude.{ℕ, Bool, true, false, cond, not, List, [], ◌∷◌, map, take, Some, None, filter, Option, ◌==◌, nat_lt}
+use Rattle.std.specs.Prelude.{ℕ, Bool, true, false, cond, not, List, [], ◌∷◌, map, Some, None, filter, Option, ◌==◌, nat_lt}
 use Rattle.fifo.specs.Lists.{lookup}
+use Rattle.fifo.specs.Bounded.{items}
 use Rattle.items.specs.Item.{Item, item_of}
 use Rattle.items.specs.Keys.{id_of}
 use Rattle.item_table.specs.declared.table.ItemTable.{ItemTable}
 
 abbrev pub items_of : ItemTable → List Item
-items_of t = map item_of (take t.len t.items)
+items_of t = map item_of (items t.rows)
 
 -- every id in the list is below the new one
 abbrev pub all_below : ℕ → List Item → Bool

@@ -1,10 +1,13 @@
-ghost use Rattle.std.specs.Prelude.{◌≡◌};
+ghost use Rattle.std.specs.Prelude.{◌≡◌, Some};
 ghost use Rattle.items.specs.declared.fault.ItemFault.TheVariants.{Filter};
-ghost use Rattle.items.specs.Faults.{item_refusal, mode_of, checked_mode, checked_item};
+ghost use Rattle.items.specs.Faults.{item_refusal, item_fault_name, mode_of, checked_mode, checked_item};
+ghost use Rattle.values.specs.Codes.{known_code};
 
 use crate::item::Mode;
+use std::fmt;
 use values::check::RequestedFilter;
 use values::checked::CheckedFilter;
+use values::code::UnknownCode;
 use values::fault::{FilterFault, Layer, Refusal};
 use values::value::Kind;
 
@@ -16,6 +19,7 @@ pub enum ItemFault {
     Filter(FilterFault),
 }
 
+// By hand: a derived `From` has no contract, and clauses name the error that `?` makes.
 impl From<FilterFault> for ItemFault {
     ghost from_gives = { λ e r. r ≡ Filter e };
 
@@ -44,28 +48,48 @@ impl ItemFault {
             ItemFault::Filter(fault) => fault.refusal(),
         }
     }
+
+    // The status name of OPC UA Part 4.
+    pub fn name(&self) -> &'static str
+        ensures { result.now ≡ item_fault_name self.now }
+    {
+        match self {
+            ItemFault::MonitoredItemIdInvalid(_) => "Bad_MonitoredItemIdInvalid",
+            ItemFault::MonitoringModeInvalid(_) => "Bad_MonitoringModeInvalid",
+            ItemFault::Filter(fault) => fault.name(),
+        }
+    }
+}
+
+impl fmt::Display for ItemFault {
+    ghost output = { λ e. Some (item_fault_name e) };
+
+    fn fmt<W: fmt::Write>(&self, f: &mut fmt::Formatter<W>) -> fmt::Result {
+        f.write_str(self.name())
+    }
+}
+
+impl TryFrom<u32> for Mode {
+    type Error = UnknownCode;
+
+    ghost try_from_gives = { λ code r. r ≡ known_code (mode_of code) code };
+
+    fn try_from(code: u32) -> Result<Self, UnknownCode> {
+        match code {
+            0 => Ok(Mode::Disabled),
+            1 => Ok(Mode::Sampling),
+            2 => Ok(Mode::Reporting),
+            _ => Err(UnknownCode(code)),
+        }
+    }
 }
 
 impl Mode {
-    fn from_code(code: u32) -> Option<Mode>
-        ensures { result ≡ mode_of code }
-    {
-        match code {
-            0 => Some(Mode::Disabled),
-            1 => Some(Mode::Sampling),
-            2 => Some(Mode::Reporting),
-            _ => None,
-        }
-    }
-
     // A requested mode, at the node or the item id that it was given for.
     pub fn check(code: u32, place: u32) -> Result<Mode, ItemFault>
         ensures { result ≡ checked_mode (mode_of code) place }
     {
-        match Mode::from_code(code) {
-            Some(mode) => Ok(mode),
-            None => Err(ItemFault::MonitoringModeInvalid(place)),
-        }
+        Mode::try_from(code).map_err(|_| ItemFault::MonitoringModeInvalid(place))
     }
 }
 

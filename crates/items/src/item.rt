@@ -3,7 +3,7 @@ use values::checked::CheckedFilter;
 use values::value::{Kind, Sample};
 
 // The monitoring mode.
-#[derive(Clone, Copy)]
+#[derive(Clone, Copy, PartialEq, Eq)]
 pub enum Mode {
     Disabled,
     Sampling,

@@ -3,7 +3,7 @@ ghost use Rattle.items.specs.Keys.{id_of, id_of_item};
 ghost use Rattle.std.proofs.Common.{rules};
 
 use crate::item::MonitoredItem;
-use fifo::queue::Keyed;
+use fifo::keyed::Keyed;
 use tables::Row;
 
 impl Keyed for MonitoredItem {

@@ -1,5 +1,5 @@
 -- A cycle in which a subscription is due ends with its message sent or with it on the late list.
-use Rattle.std.proofs.Common.{◌≡◌, ℕ, Bool, true, false, cond, eqb, ltb, List, [], ◌∷◌, ◌++◌, sym, refl, ap, ◌∙◌, subst, inl, inr, append_assoc}
+use Rattle.std.proofs.Common.{◌≡◌, ℕ, Bool, true, false, cond, eqb, ltb, List, [], ◌∷◌, ◌++◌, sym, refl, ap, ◌∙◌, subst, inl, inr, append_assoc, Option}
 use Rattle.std.specs.List.{AllByRecursion}
 use Rattle.std.proofs.lemmas.Bool.{true≢false, eq-eqb}
 use Rattle.sources.specs.declared.source.Standing.{Standing}
@@ -91,7 +91,7 @@ heard_later id fs f gs q h = at h
         inr (subst (In id) (ap (λ p. p.late) (sym (shared_append fs (f ∷ gs) q)))
         (subst (In id) (sym (all_grow gs (passes f u).shared)) (in_left id (passes f u).shared.late (joined_ids (passes_all gs (passes f u).shared).events) h)))
 
-heard_passed : (stands : ℕ → Standing) (s : State) → Published s → (fs : List Figures) (f : Figures) (gs : List Figures) → s.subscriptions ≡ fs ++ f ∷ gs →
+heard_passed : (stands : ℕ → Option Standing) (s : State) → Published s → (fs : List Figures) (f : Figures) (gs : List Figures) → s.subscriptions ≡ fs ++ f ∷ gs →
     live f.phase ≡ true → runs f ≡ true → DueIn (counted_down f) (passes_all fs (shared_of (sampled_state stands s))).shared →
     HeardIn f.id (passes f (passes_all fs (shared_of (sampled_state stands s))).shared).responses (passes f (passes_all fs (shared_of (sampled_state stands s))).shared).shared.late
     × HeardIn f.id (passed (sampled_state stands s)).responses (passed (sampled_state stands s)).shared.late
@@ -105,7 +105,7 @@ heard_passed stands s p fs f gs e l r d =
     (λ z. subst (In f.id) (sym (all_grow fs q)) (in_left f.id s.late (joined_ids (passes_all fs q).events) (w.1 z))) l r d in
     (h, subst (λ gs. HeardIn f.id (passes_all gs q).responses (passes_all gs q).shared.late) (sym e) (heard_later f.id fs f gs q h))
 
-pub tick_heard : (stands : ℕ → Standing) (s : State) → Published s → (room : ℕ) → (calls.called s (record { stands = stands; call = calls.Tick room })).accepted ≡ true →
+pub tick_heard : (stands : ℕ → Option Standing) (s : State) → Published s → (room : ℕ) → (calls.called s (record { stands = stands; call = calls.Tick room })).accepted ≡ true →
     HeardBy stands s (calls.called s (record { stands = stands; call = calls.Tick room }))
 tick_heard stands s p room a = at (ltb room 8) a
   where

@@ -1,5 +1,5 @@
 -- What each call does to the requests and to the late list.
-use Rattle.std.proofs.Common.{◌≡◌, ℕ, Bool, true, false, List, [], ◌∷◌, ◌++◌, map, ℤ, sym, refl, ap, ◌∙◌, inl}
+use Rattle.std.proofs.Common.{◌≡◌, ℕ, Bool, true, false, List, [], ◌∷◌, ◌++◌, map, sym, refl, ap, ◌∙◌, inl, Option}
 use Rattle.std.proofs.lemmas.List.{append-nil}
 use Rattle.std.proofs.lemmas.Bool.{true≢false}
 use Rattle.fifo.specs.Lists.{none, rest}
@@ -13,6 +13,11 @@ use Rattle.messages.specs.declared.message.Message.{Message}
 use Rattle.messages.specs.declared.response.ResponseKind.TheVariants.{NoSubscription}
 use Rattle.messages.specs.Responses.{refusing}
 use Rattle.answers.specs.declared.acknowledgement.Acknowledgement.{Acknowledgement}
+use Rattle.subscriptions.specs.declared.parameters.SubscriptionParameters.{SubscriptionParameters}
+use Rattle.subscriptions.specs.declared.parameters.RevisedSubscription.{RevisedSubscription}
+use Rattle.model.specs.declared.revised.CreatedSubscription.{CreatedSubscription}
+use Rattle.model.specs.declared.revised.RevisedItem.{RevisedItem}
+use Rattle.model.specs.declared.revised.CreatedItem.{CreatedItem}
 use Rattle.model.specs.declared.parameters.MonitoringParameters.{MonitoringParameters}
 use Rattle.model.specs.State.{State}
 use Rattle.model.specs.Steps.{Joined, Step}
@@ -70,14 +75,14 @@ module _ (s : State) where
   refuses : (c : Call) → Effect s c (record { state = s; accepted = false; responses = []; events = [] })
   refuses c = record { handles = unchanged.0; late = unchanged.1 }
 
-  create_effect : (ms : ℤ) (k l m : ℕ) (enabled : Bool) (t : Step (ℕ × ℕ × ℕ × ℕ)) → cases.CreatingSubscription s ms k l m enabled t → Effect s (CreateSubscription ms k l m enabled) (done t)
-  create_effect ms k l m enabled t (cases.full e) = refuses _
-  create_effect ms k l m enabled t (cases.used_up u) = refuses _
-  create_effect ms k l m enabled t (cases.made n u) = record { handles = unchanged.0; late = unchanged.1 }
+  create_effect : (p : SubscriptionParameters) (enabled : Bool) (t : Step CreatedSubscription) → cases.CreatingSubscription s p enabled t → Effect s (CreateSubscription p enabled) (done t)
+  create_effect p enabled t (cases.full e) = refuses _
+  create_effect p enabled t (cases.used_up u) = refuses _
+  create_effect p enabled t (cases.made n u) = record { handles = unchanged.0; late = unchanged.1 }
 
-  modify_effect : (id : ℕ) (ms : ℤ) (k l m : ℕ) (t : Step (ℕ × ℕ × ℕ)) → cases.ModifyingSubscription s id ms k l m t → Effect s (ModifySubscription id ms k l m) (done t)
-  modify_effect id ms k l m t (cases.unknown e) = refuses _
-  modify_effect id ms k l m t (cases.modifies f e) = record { handles = unchanged.0; late = unchanged.1 }
+  modify_effect : (id : ℕ) (p : SubscriptionParameters) (t : Step RevisedSubscription) → cases.ModifyingSubscription s id p t → Effect s (ModifySubscription id p) (done t)
+  modify_effect id p t (cases.unknown e) = refuses _
+  modify_effect id p t (cases.modifies f e) = record { handles = unchanged.0; late = unchanged.1 }
 
   enable_effect : (id : ℕ) (enabled : Bool) (t : Step (Unit {0})) → cases.SettingPublishing s id enabled t → Effect s (SetPublishingMode id enabled) (done t)
   enable_effect id enabled t (cases.unknown e) = refuses _
@@ -89,15 +94,15 @@ module _ (s : State) where
   delete_effect id room t (cases.last f e n) = record { handles = ap (λ l. l ++ []) (refusing_handles s.requests); late = sym (append-nil t.state.late) }
   delete_effect id room t (cases.one f e n) = record { handles = unchanged.0; late = sym (append-nil t.state.late) }
 
-  create_item_effect : (stands : ℕ → Standing) (id node mode : ℕ) (p : MonitoringParameters) (t : Step (ℕ × ℕ × ℕ)) → cases.CreatingItem stands s id node mode p t → Effect s (CreateItem id node mode p) (done t)
+  create_item_effect : (stands : ℕ → Option Standing) (id node mode : ℕ) (p : MonitoringParameters) (t : Step CreatedItem) → cases.CreatingItem stands s id node mode p t → Effect s (CreateItem id node mode p) (done t)
   create_item_effect stands id node mode p t (cases.unknown e) = refuses _
   create_item_effect stands id node mode p t (cases.full e) = refuses _
   create_item_effect stands id node mode p t (cases.used_up u) = refuses _
   create_item_effect stands id node mode p t (cases.no_node e) = refuses _
-  create_item_effect stands id node mode p t (cases.bad kind sample e k c) = refuses _
-  create_item_effect stands id node mode p t (cases.adds f kind sample checks e n l k c) = record { handles = unchanged.0; late = unchanged.1 }
+  create_item_effect stands id node mode p t (cases.bad shown e k c) = refuses _
+  create_item_effect stands id node mode p t (cases.adds f shown checks e n l k c) = record { handles = unchanged.0; late = unchanged.1 }
 
-  modify_item_effect : (id item : ℕ) (p : MonitoringParameters) (t : Step (ℕ × ℕ)) → cases.ModifyingItem s id item p t → Effect s (ModifyItem id item p) (done t)
+  modify_item_effect : (id item : ℕ) (p : MonitoringParameters) (t : Step RevisedItem) → cases.ModifyingItem s id item p t → Effect s (ModifyItem id item p) (done t)
   modify_item_effect id item p t (cases.unknown e) = refuses _
   modify_item_effect id item p t (cases.no_item e) = refuses _
   modify_item_effect id item p t (cases.bad x e i c) = refuses _
@@ -120,7 +125,7 @@ module _ (s : State) where
   republish_effect id n t (cases.no_message_lem e) = refuses _
   republish_effect id n t (cases.republishes f m e k) = record { handles = unchanged.0; late = unchanged.1 }
 
-  tick_effect : Published s → (stands : ℕ → Standing) (room : ℕ) (t : Step ℕ) → cases.Ticking stands s room t → Effect s (Tick room) (done t)
+  tick_effect : Published s → (stands : ℕ → Option Standing) (room : ℕ) (t : Step ℕ) → cases.Ticking stands s room t → Effect s (Tick room) (done t)
   tick_effect p stands room t (cases.short r) = refuses _
   tick_effect p stands room t cases.passes_all_lem =
       let q = passed (sampled_state stands s) in
@@ -167,9 +172,9 @@ publish_effect s p h acks room places t (cases.accepted u m r) =
     let e = requested_effect (acknowledged_state s acks) (published_all_acknowledged acks s p) h acks room places u r in
     record { handles = e.handles; late = e.late }
 
-done_effect : (stands : ℕ → Standing) (s : State) → Sound s → (c : Call) → Effect s c (done_by stands s c)
-done_effect stands s h (CreateSubscription ms k l m enabled) = create_effect s ms k l m enabled (create_subscription s ms k l m enabled) (cases.creating_subscription s ms k l m enabled)
-done_effect stands s h (ModifySubscription id ms k l m) = modify_effect s id ms k l m (modify_subscription s id ms k l m) (cases.modifying_subscription s id ms k l m)
+done_effect : (stands : ℕ → Option Standing) (s : State) → Sound s → (c : Call) → Effect s c (done_by stands s c)
+done_effect stands s h (CreateSubscription p enabled) = create_effect s p enabled (create_subscription s p enabled) (cases.creating_subscription s p enabled)
+done_effect stands s h (ModifySubscription id p) = modify_effect s id p (modify_subscription s id p) (cases.modifying_subscription s id p)
 done_effect stands s h (SetPublishingMode id enabled) = enable_effect s id enabled (set_publishing_mode s id enabled) (cases.setting_publishing s id enabled)
 done_effect stands s h (DeleteSubscription id room) = delete_effect s id room (delete_subscription s id room) (cases.deleting_subscription s id room)
 done_effect stands s h (CreateItem id node mode p) = create_item_effect s stands id node mode p (create_item stands s id node mode p) (cases.creating_item stands s id node mode p)

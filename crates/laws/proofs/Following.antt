@@ -177,7 +177,7 @@ pub follows_above : (known more : ℕ → Since) (k : ℕ) (xs : List Item) → 
 follows_above known more k xs o l a =
     all_both (λ x. k < item_id x) (λ x. Tracked x (known (item_id x))) (λ x. Tracked x (more (item_id x))) (λ x b g. subst (Tracked x) (sym (o (item_id x) (λ e. omega arith))) g) xs l a
 
-module _ (stands : ℕ → Standing) where
+module _ (stands : ℕ → Option Standing) where
   abbrev shown_to : Item → Sample
   shown_to x = sample_of (stands x.identity.node)
 

@@ -1,5 +1,5 @@
 -- A late subscription answers when those before it on the late list have.
-use Rattle.std.proofs.Common.{◌≡◌, ℕ, zero, suc, ◌+◌, ◌≤◌, Bool, true, false, cond, eqb, ◌⊎◌, List, [], ◌∷◌, ◌++◌, map, length, Some, None, sym, refl, ap, ◌∙◌, subst, inl, inr, append_assoc, arith, length-append}
+use Rattle.std.proofs.Common.{◌≡◌, ℕ, zero, suc, ◌+◌, ◌≤◌, Bool, true, false, cond, eqb, ◌⊎◌, List, [], ◌∷◌, ◌++◌, map, length, Some, None, sym, refl, ap, ◌∙◌, subst, inl, inr, append_assoc, arith, length-append, Option}
 use Rattle.std.proofs.lemmas.Bool.{true≢false, eq-eqb, eqb-true, eqb-false, or_left, or_right}
 use Rattle.fifo.specs.Lists.{none, first, rest, without}
 use Rattle.sources.specs.declared.source.Standing.{Standing}
@@ -130,9 +130,9 @@ other_next : (p id : ℕ) (late : List ℕ) → Front p id late → (c : Call) �
 other_next p id late f c e n true rs = moved p (subst (Front p id) (sym e) f) (let z = ap length n in omega arith)
 other_next p id late f c e n false rs = moved p f (omega arith)
 
-done_next : (stands : ℕ → Standing) (s : State) → Sound s → (p id : ℕ) → Front p id s.late → (c : Call) → Next p id c (done_by stands s c).accepted (done_by stands s c).responses s.late
-done_next stands s h p id f (CreateSubscription ms k l m enabled) = other_next p id s.late f (CreateSubscription ms k l m enabled) refl refl _ _
-done_next stands s h p id f (ModifySubscription i ms k l m) = other_next p id s.late f (ModifySubscription i ms k l m) refl refl _ _
+done_next : (stands : ℕ → Option Standing) (s : State) → Sound s → (p id : ℕ) → Front p id s.late → (c : Call) → Next p id c (done_by stands s c).accepted (done_by stands s c).responses s.late
+done_next stands s h p id f (CreateSubscription q enabled) = other_next p id s.late f (CreateSubscription q enabled) refl refl _ _
+done_next stands s h p id f (ModifySubscription i q) = other_next p id s.late f (ModifySubscription i q) refl refl _ _
 done_next stands s h p id f (SetPublishingMode i enabled) = other_next p id s.late f (SetPublishingMode i enabled) refl refl _ _
 done_next stands s h p id f (DeleteSubscription i room) = deleting p id s.late f _ i room _
 done_next stands s h p id f (CreateItem i node mode q) = other_next p id s.late f (CreateItem i node mode q) refl refl _ _

@@ -1,5 +1,5 @@
 -- A sampled event carries what the source shows for the item's node.
-use Rattle.std.proofs.Common.{◌≡◌, ℕ, Bool, true, false, cond, List, [], ◌∷◌, ◌++◌, map, ℤ, Some, None, Option, sym, refl, inl, inr}
+use Rattle.std.proofs.Common.{◌≡◌, ℕ, Bool, true, false, cond, List, [], ◌∷◌, ◌++◌, map, Some, None, Option, sym, refl, inl, inr}
 use Rattle.std.specs.List.{AllByRecursion}
 use Rattle.std.proofs.ByRecursion.{All-append}
 use Rattle.std.proofs.lemmas.Bool.{true≢false}
@@ -24,6 +24,11 @@ use Rattle.messages.specs.declared.message.Message.{Message}
 use Rattle.messages.specs.Messages.{number_of}
 use Rattle.retransmission.specs.Rows.{Kept, kept_of}
 use Rattle.answers.specs.declared.acknowledgement.Acknowledgement.{Acknowledgement}
+use Rattle.subscriptions.specs.declared.parameters.SubscriptionParameters.{SubscriptionParameters}
+use Rattle.subscriptions.specs.declared.parameters.RevisedSubscription.{RevisedSubscription}
+use Rattle.model.specs.declared.revised.CreatedSubscription.{CreatedSubscription}
+use Rattle.model.specs.declared.revised.RevisedItem.{RevisedItem}
+use Rattle.model.specs.declared.revised.CreatedItem.{CreatedItem}
 use Rattle.model.specs.declared.parameters.MonitoringParameters.{MonitoringParameters}
 use Rattle.model.specs.State.{State, new_state, live_in, with_subscriptions}
 use Rattle.model.specs.Steps.{Event, Joined, Started, Sampled, Sent, Step, answers, for_live}
@@ -115,10 +120,10 @@ requesting_unsampled s h t (cases.queued n l r) = tt
 requesting_unsampled s h t (cases.crowds oldest n l r e) = tt
 
 -- an item of the list that was sampled so
-abbrev SampledIn : (ℕ → Standing) → List Item → ℕ → Sample → Type 0
+abbrev SampledIn : (ℕ → Option Standing) → List Item → ℕ → Sample → Type 0
 SampledIn stands xs id v = (x : Item) × In x xs × (item_id x ≡ id) × (v ≡ sample_of (stands x.identity.node))
 
-samplings_in : (stands : ℕ → Standing) (xs : List Item) (id : ℕ) (v : Sample) → In (Sampled id v) (samplings stands xs) → SampledIn stands xs id v
+samplings_in : (stands : ℕ → Option Standing) (xs : List Item) (id : ℕ) (v : Sample) → In (Sampled id v) (samplings stands xs) → SampledIn stands xs id v
 samplings_in stands [] id v h = absurd h
 samplings_in stands (x ∷ xs) id v h = at (samples x) h (λ i. more (samplings_in stands xs id v i))
   where
@@ -132,14 +137,14 @@ samplings_in stands (x ∷ xs) id v h = at (samples x) h (λ i. more (samplings_
     at false h ih = ih h
 
 -- the calls on subscriptions and items, and Publish
-creates_unsampled : (s : State) (ms : ℤ) (k l m : ℕ) (enabled : Bool) (t : Step (ℕ × ℕ × ℕ × ℕ)) → cases.CreatingSubscription s ms k l m enabled t → Unsampled t.events
-creates_unsampled s ms k l m enabled t (cases.full e) = tt
-creates_unsampled s ms k l m enabled t (cases.used_up e) = tt
-creates_unsampled s ms k l m enabled t (cases.made e n) = tt
+creates_unsampled : (s : State) (p : SubscriptionParameters) (enabled : Bool) (t : Step CreatedSubscription) → cases.CreatingSubscription s p enabled t → Unsampled t.events
+creates_unsampled s p enabled t (cases.full e) = tt
+creates_unsampled s p enabled t (cases.used_up e) = tt
+creates_unsampled s p enabled t (cases.made e n) = tt
 
-modifies_unsampled : (s : State) (id : ℕ) (ms : ℤ) (k l m : ℕ) (t : Step (ℕ × ℕ × ℕ)) → cases.ModifyingSubscription s id ms k l m t → Unsampled t.events
-modifies_unsampled s id ms k l m t (cases.unknown e) = tt
-modifies_unsampled s id ms k l m t (cases.modifies f e) = tt
+modifies_unsampled : (s : State) (id : ℕ) (p : SubscriptionParameters) (t : Step RevisedSubscription) → cases.ModifyingSubscription s id p t → Unsampled t.events
+modifies_unsampled s id p t (cases.unknown e) = tt
+modifies_unsampled s id p t (cases.modifies f e) = tt
 
 enables_unsampled : (s : State) (id : ℕ) (enabled : Bool) (t : Step (Unit {0})) → cases.SettingPublishing s id enabled t → Unsampled t.events
 enables_unsampled s id enabled t (cases.unknown e) = tt
@@ -151,15 +156,15 @@ deletes_unsampled s id room t (cases.unknown e) = tt
 deletes_unsampled s id room t (cases.last f e n) = tt
 deletes_unsampled s id room t (cases.one f e n) = tt
 
-adds_unsampled : (stands : ℕ → Standing) (s : State) (id node mode : ℕ) (p : MonitoringParameters) (t : Step (ℕ × ℕ × ℕ)) → cases.CreatingItem stands s id node mode p t → Unsampled t.events
+adds_unsampled : (stands : ℕ → Option Standing) (s : State) (id node mode : ℕ) (p : MonitoringParameters) (t : Step CreatedItem) → cases.CreatingItem stands s id node mode p t → Unsampled t.events
 adds_unsampled stands s id node mode p t (cases.unknown e) = tt
 adds_unsampled stands s id node mode p t (cases.full e) = tt
 adds_unsampled stands s id node mode p t (cases.used_up e) = tt
 adds_unsampled stands s id node mode p t (cases.no_node e) = tt
-adds_unsampled stands s id node mode p t (cases.bad kind sample x e c) = tt
-adds_unsampled stands s id node mode p t (cases.adds f kind sample checks e n l k c) = (refl, tt)
+adds_unsampled stands s id node mode p t (cases.bad shown x e c) = tt
+adds_unsampled stands s id node mode p t (cases.adds f shown checks e n l k c) = (refl, tt)
 
-changes_unsampled : (s : State) (id item : ℕ) (p : MonitoringParameters) (t : Step (ℕ × ℕ)) → cases.ModifyingItem s id item p t → Unsampled t.events
+changes_unsampled : (s : State) (id item : ℕ) (p : MonitoringParameters) (t : Step RevisedItem) → cases.ModifyingItem s id item p t → Unsampled t.events
 changes_unsampled s id item p t (cases.unknown e) = tt
 changes_unsampled s id item p t (cases.no_item e) = tt
 changes_unsampled s id item p t (cases.bad x y e c) = tt
@@ -194,7 +199,7 @@ republish_unsampled s id n = found (live_in id s.subscriptions)
     found None = tt
     found (Some f) = given f (lookup number_of n (kept_of id s.kept))
 
-tick_sampled : (stands : ℕ → Standing) (s : State) (room : ℕ) (id : ℕ) (v : Sample) (t : Step ℕ) → cases.Ticking stands s room t → In (Sampled id v) t.events → SampledIn stands s.items id v
+tick_sampled : (stands : ℕ → Option Standing) (s : State) (room : ℕ) (id : ℕ) (v : Sample) (t : Step ℕ) → cases.Ticking stands s room t → In (Sampled id v) t.events → SampledIn stands s.items id v
 tick_sampled stands s room id v t (cases.short e) h = absurd h
 tick_sampled stands s room id v t cases.passes_all_lem h =
     elim (in_cases (Sampled id v) (samplings stands s.items) (passed (sampled_state stands s)).events h) [
@@ -202,13 +207,13 @@ tick_sampled stands s room id v t cases.passes_all_lem h =
       | inr i ↦ absurd (none_sampled id v (passed (sampled_state stands s)).events (all_unsampled s.subscriptions (shared_of (sampled_state stands s))) i)
     ]
 
-module _ (stands : ℕ → Standing) (s : State) (k : ℕ) (v : Sample) where
+module _ (stands : ℕ → Option Standing) (s : State) (k : ℕ) (v : Sample) where
   never : (es : List Event) → Unsampled es → In (Sampled k v) es → SampledIn stands s.items k v
   never es a h = absurd (none_sampled k v es a h)
 
   done_sampled : (c : Call) → In (Sampled k v) (done_by stands s c).events → SampledIn stands s.items k v
-  done_sampled (CreateSubscription ms n l m enabled) h = never (create_subscription s ms n l m enabled).events (creates_unsampled s ms n l m enabled _ (cases.creating_subscription s ms n l m enabled)) h
-  done_sampled (ModifySubscription id ms n l m) h = never (modify_subscription s id ms n l m).events (modifies_unsampled s id ms n l m _ (cases.modifying_subscription s id ms n l m)) h
+  done_sampled (CreateSubscription p enabled) h = never (create_subscription s p enabled).events (creates_unsampled s p enabled _ (cases.creating_subscription s p enabled)) h
+  done_sampled (ModifySubscription id p) h = never (modify_subscription s id p).events (modifies_unsampled s id p _ (cases.modifying_subscription s id p)) h
   done_sampled (SetPublishingMode id enabled) h = never (set_publishing_mode s id enabled).events (enables_unsampled s id enabled _ (cases.setting_publishing s id enabled)) h
   done_sampled (DeleteSubscription id room) h = never (delete_subscription s id room).events (deletes_unsampled s id room _ (cases.deleting_subscription s id room)) h
   done_sampled (CreateItem id node mode p) h = never (create_item stands s id node mode p).events (adds_unsampled stands s id node mode p _ (cases.creating_item stands s id node mode p)) h

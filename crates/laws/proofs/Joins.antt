@@ -1,5 +1,5 @@
 -- What joins the late list in a step stands in its events.
-use Rattle.std.proofs.Common.{◌≡◌, ℕ, Bool, true, false, cond, List, [], ◌∷◌, ◌++◌, map, sym, refl, ap, ◌∙◌, append_assoc}
+use Rattle.std.proofs.Common.{◌≡◌, ℕ, Bool, true, false, cond, List, [], ◌∷◌, ◌++◌, map, sym, refl, ap, ◌∙◌, append_assoc, Option}
 use Rattle.std.proofs.lemmas.List.{append-nil}
 use Rattle.sources.specs.declared.source.Standing.{Standing}
 use Rattle.sources.specs.Standings.{sample_of}
@@ -44,7 +44,7 @@ message_joins_none h f xs kept = at (message h f xs kept) (message_cases h f xs 
     at m (notified e) = sent_joins_none (taken f xs).sent
 
 -- nor with a sample
-pub samplings_join_none : (stands : ℕ → Standing) (xs : List Item) → joined_ids (samplings stands xs) ≡ []
+pub samplings_join_none : (stands : ℕ → Option Standing) (xs : List Item) → joined_ids (samplings stands xs) ≡ []
 samplings_join_none stands [] = refl
 samplings_join_none stands (x ∷ xs) = at (samples x) (samplings_join_none stands xs)
   where

@@ -1,5 +1,5 @@
 -- The notifications in all responses are those of the sent events.
-use Rattle.std.proofs.Common.{◌≡◌, ℕ, ◌≤◌, Bool, true, false, cond, List, [], ◌∷◌, ◌++◌, map, ℤ, Some, None, Option, sym, refl, ap, ◌∙◌, subst, append_assoc, arith}
+use Rattle.std.proofs.Common.{◌≡◌, ℕ, ◌≤◌, Bool, true, false, cond, List, [], ◌∷◌, ◌++◌, map, Some, None, Option, sym, refl, ap, ◌∙◌, subst, append_assoc, arith}
 use Rattle.std.specs.List.{AllByRecursion}
 use Rattle.std.proofs.ByRecursion.{All-weaker}
 use Rattle.std.proofs.lemmas.List.{append-nil, length-map}
@@ -26,6 +26,11 @@ use Rattle.messages.specs.Responses.{refusing, notifications_shown}
 use Rattle.messages.proofs.Shown.{counted_padded}
 use Rattle.retransmission.specs.Rows.{Kept, kept_of}
 use Rattle.answers.specs.declared.acknowledgement.Acknowledgement.{Acknowledgement}
+use Rattle.subscriptions.specs.declared.parameters.SubscriptionParameters.{SubscriptionParameters}
+use Rattle.subscriptions.specs.declared.parameters.RevisedSubscription.{RevisedSubscription}
+use Rattle.model.specs.declared.revised.CreatedSubscription.{CreatedSubscription}
+use Rattle.model.specs.declared.revised.RevisedItem.{RevisedItem}
+use Rattle.model.specs.declared.revised.CreatedItem.{CreatedItem}
 use Rattle.model.specs.declared.parameters.MonitoringParameters.{MonitoringParameters}
 use Rattle.model.specs.State.{State, new_state, live_in, with_subscriptions}
 use Rattle.model.specs.Steps.{Event, Joined, Started, Sampled, Sent, Step, answers, for_live}
@@ -123,7 +128,7 @@ all_agree (f ∷ fs) q l =
     let p = passes f q in
     agree_append p.responses (passes_all fs p.shared).responses p.events (passes_all fs p.shared).events (passes_agree f q l.0) (all_agree fs p.shared l.1)
 
-samplings_silent : (stands : ℕ → Standing) (xs : List Item) → sent_notifications (samplings stands xs) ≡ []
+samplings_silent : (stands : ℕ → Option Standing) (xs : List Item) → sent_notifications (samplings stands xs) ≡ []
 samplings_silent stands [] = refl
 samplings_silent stands (x ∷ xs) = at (samples x) (samplings_silent stands xs)
   where
@@ -145,14 +150,14 @@ starting_silent Reporting m id = refl
 abbrev Agrees : {X : Type 0} → Step X → Type 0
 Agrees t = Agree t.responses t.events
 
-creates_agree : (s : State) (ms : ℤ) (k l m : ℕ) (enabled : Bool) (t : Step (ℕ × ℕ × ℕ × ℕ)) → cases.CreatingSubscription s ms k l m enabled t → Agrees t
-creates_agree s ms k l m enabled t (cases.full e) = refl
-creates_agree s ms k l m enabled t (cases.used_up e) = refl
-creates_agree s ms k l m enabled t (cases.made e n) = refl
+creates_agree : (s : State) (p : SubscriptionParameters) (enabled : Bool) (t : Step CreatedSubscription) → cases.CreatingSubscription s p enabled t → Agrees t
+creates_agree s p enabled t (cases.full e) = refl
+creates_agree s p enabled t (cases.used_up e) = refl
+creates_agree s p enabled t (cases.made e n) = refl
 
-modifies_agree : (s : State) (id : ℕ) (ms : ℤ) (k l m : ℕ) (t : Step (ℕ × ℕ × ℕ)) → cases.ModifyingSubscription s id ms k l m t → Agrees t
-modifies_agree s id ms k l m t (cases.unknown e) = refl
-modifies_agree s id ms k l m t (cases.modifies f e) = refl
+modifies_agree : (s : State) (id : ℕ) (p : SubscriptionParameters) (t : Step RevisedSubscription) → cases.ModifyingSubscription s id p t → Agrees t
+modifies_agree s id p t (cases.unknown e) = refl
+modifies_agree s id p t (cases.modifies f e) = refl
 
 enables_agree : (s : State) (id : ℕ) (enabled : Bool) (t : Step (Unit {0})) → cases.SettingPublishing s id enabled t → Agrees t
 enables_agree s id enabled t (cases.unknown e) = refl
@@ -164,15 +169,15 @@ deletes_agree s id room t (cases.unknown e) = refl
 deletes_agree s id room t (cases.last f e n) = refusing_silent s.requests
 deletes_agree s id room t (cases.one f e n) = refl
 
-adds_agree : (stands : ℕ → Standing) (s : State) (id node mode : ℕ) (p : MonitoringParameters) (t : Step (ℕ × ℕ × ℕ)) → cases.CreatingItem stands s id node mode p t → Agrees t
+adds_agree : (stands : ℕ → Option Standing) (s : State) (id node mode : ℕ) (p : MonitoringParameters) (t : Step CreatedItem) → cases.CreatingItem stands s id node mode p t → Agrees t
 adds_agree stands s id node mode p t (cases.unknown e) = refl
 adds_agree stands s id node mode p t (cases.full e) = refl
 adds_agree stands s id node mode p t (cases.used_up e) = refl
 adds_agree stands s id node mode p t (cases.no_node e) = refl
-adds_agree stands s id node mode p t (cases.bad kind sample x e c) = refl
-adds_agree stands s id node mode p t (cases.adds f kind sample checks e n l k c) = refl
+adds_agree stands s id node mode p t (cases.bad shown x e c) = refl
+adds_agree stands s id node mode p t (cases.adds f shown checks e n l k c) = refl
 
-changes_agree : (s : State) (id item : ℕ) (p : MonitoringParameters) (t : Step (ℕ × ℕ)) → cases.ModifyingItem s id item p t → Agrees t
+changes_agree : (s : State) (id item : ℕ) (p : MonitoringParameters) (t : Step RevisedItem) → cases.ModifyingItem s id item p t → Agrees t
 changes_agree s id item p t (cases.unknown e) = refl
 changes_agree s id item p t (cases.no_item e) = refl
 changes_agree s id item p t (cases.bad x y e c) = refl
@@ -223,16 +228,16 @@ republishes_agree s id n = found (live_in id s.subscriptions)
     found None = refl
     found (Some f) = given f (lookup number_of n (kept_of id s.kept))
 
-ticks_agree : (stands : ℕ → Standing) (s : State) → Sound s → (room : ℕ) (t : Step ℕ) → cases.Ticking stands s room t → Agrees t
+ticks_agree : (stands : ℕ → Option Standing) (s : State) → Sound s → (room : ℕ) (t : Step ℕ) → cases.Ticking stands s room t → Agrees t
 ticks_agree stands s sound room t (cases.short e) = refl
 ticks_agree stands s sound room t cases.passes_all_lem =
     let p = passed (sampled_state stands s) in
     let a = all_agree s.subscriptions (shared_of (sampled_state stands s)) (limits s.subscriptions sound.published.bounded) in
     agree_append [] p.responses (samplings stands s.items) p.events (sym (samplings_silent stands s.items)) a
 
-done_agrees : (stands : ℕ → Standing) (s : State) → Sound s → (c : Call) → Agree (done_by stands s c).responses (done_by stands s c).events
-done_agrees stands s sound (CreateSubscription ms n l m enabled) = creates_agree s ms n l m enabled _ (cases.creating_subscription s ms n l m enabled)
-done_agrees stands s sound (ModifySubscription id ms n l m) = modifies_agree s id ms n l m _ (cases.modifying_subscription s id ms n l m)
+done_agrees : (stands : ℕ → Option Standing) (s : State) → Sound s → (c : Call) → Agree (done_by stands s c).responses (done_by stands s c).events
+done_agrees stands s sound (CreateSubscription p enabled) = creates_agree s p enabled _ (cases.creating_subscription s p enabled)
+done_agrees stands s sound (ModifySubscription id p) = modifies_agree s id p _ (cases.modifying_subscription s id p)
 done_agrees stands s sound (SetPublishingMode id enabled) = enables_agree s id enabled _ (cases.setting_publishing s id enabled)
 done_agrees stands s sound (DeleteSubscription id room) = deletes_agree s id room _ (cases.deleting_subscription s id room)
 done_agrees stands s sound (CreateItem id node mode p) = adds_agree stands s id node mode p _ (cases.creating_item stands s id node mode p)

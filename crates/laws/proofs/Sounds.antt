@@ -1,14 +1,14 @@
 -- Every call of a run keeps the state sound.
-use Rattle.std.proofs.Common.{ℕ, List, [], ◌∷◌}
+use Rattle.std.proofs.Common.{ℕ, List, [], ◌∷◌, Option}
 use Rattle.sources.specs.declared.source.Standing.{Standing}
 use Rattle.model.specs.State.{State, new_state}
 use Rattle.model.specs.Sound.{Sound}
 use Rattle.soundness.proofs.Keeps.{sound_new, sound_create_subscription, sound_modify_subscription, sound_set_publishing_mode, sound_delete_subscription, sound_create_item, sound_modify_item, sound_delete_item, sound_set_monitoring_mode, sound_publish, sound_republish, sound_tick}
 use Rattle.laws.specs.Runs.{Call, CreateSubscription, ModifySubscription, SetPublishingMode, DeleteSubscription, CreateItem, ModifyItem, DeleteItem, SetMonitoringMode, Publish, Republish, Tick, Scene, done_by, called, final}
 
-sound_done : (stands : ℕ → Standing) (s : State) → Sound s → (c : Call) → Sound (done_by stands s c).state
-sound_done stands s h (CreateSubscription ms k l m enabled) = sound_create_subscription s h ms k l m enabled
-sound_done stands s h (ModifySubscription id ms k l m) = sound_modify_subscription s h id ms k l m
+sound_done : (stands : ℕ → Option Standing) (s : State) → Sound s → (c : Call) → Sound (done_by stands s c).state
+sound_done stands s h (CreateSubscription p enabled) = sound_create_subscription s h p enabled
+sound_done stands s h (ModifySubscription id p) = sound_modify_subscription s h id p
 sound_done stands s h (SetPublishingMode id enabled) = sound_set_publishing_mode s h id enabled
 sound_done stands s h (DeleteSubscription id room) = sound_delete_subscription s h id room
 sound_done stands s h (CreateItem id node mode p) = sound_create_item s h stands id node mode p

@@ -85,7 +85,7 @@ tracked_offered x v t h = at x.last refl
     at None l = goes
     at (Some u) l = by u l (changed x.settings.filter.filter u v) refl
 
-pub tracked_ticked : (stands : ℕ → Standing) (x : Item) (t : Since) → Tracked x t → Tracked (ticked stands x) (cond (samples x) (sampled_now (sample_of (stands x.identity.node)) t) t)
+pub tracked_ticked : (stands : ℕ → Option Standing) (x : Item) (t : Since) → Tracked x t → Tracked (ticked stands x) (cond (samples x) (sampled_now (sample_of (stands x.identity.node)) t) t)
 tracked_ticked stands x t h = at x.mode
   where
     v : Sample

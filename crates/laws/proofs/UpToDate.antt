@@ -1,5 +1,5 @@
 -- An item with nothing waiting shows what the source stood at when it was last sampled.
-use Rattle.std.proofs.Common.{◌≡◌, ℕ, ◌<◌, Bool, true, false, List, [], ◌∷◌, ℤ, Some, None, Option, sym, refl, ap, ◌∙◌, subst, inl, inr, arith}
+use Rattle.std.proofs.Common.{◌≡◌, ℕ, ◌<◌, Bool, true, false, List, [], ◌∷◌, Some, None, Option, sym, refl, ap, ◌∙◌, subst, inl, inr, arith}
 use Rattle.std.proofs.ByRecursion.{All-push}
 use Rattle.fifo.specs.Lists.{lookup, replaced}
 use Rattle.values.specs.declared.value.Sample.{Sample}
@@ -19,6 +19,11 @@ use Rattle.messages.specs.declared.message.Message.{Message}
 use Rattle.messages.specs.Messages.{number_of}
 use Rattle.retransmission.specs.Rows.{kept_of}
 use Rattle.answers.specs.declared.acknowledgement.Acknowledgement.{Acknowledgement}
+use Rattle.subscriptions.specs.declared.parameters.SubscriptionParameters.{SubscriptionParameters}
+use Rattle.subscriptions.specs.declared.parameters.RevisedSubscription.{RevisedSubscription}
+use Rattle.model.specs.declared.revised.CreatedSubscription.{CreatedSubscription}
+use Rattle.model.specs.declared.revised.RevisedItem.{RevisedItem}
+use Rattle.model.specs.declared.revised.CreatedItem.{CreatedItem}
 use Rattle.model.specs.declared.parameters.MonitoringParameters.{MonitoringParameters}
 use Rattle.model.specs.State.{State, new_state, live_in, with_subscriptions}
 use Rattle.model.specs.Steps.{Joined, Started, Step, answers, for_live}
@@ -83,14 +88,14 @@ module _ (known : ℕ → Since) (s : State) (sound : Sound s) (h : Follows know
   rises : Following known s.items
   rises = record { rising = sound.monitored.rising; each = h }
 
-  creates_known : (ms : ℤ) (k l m : ℕ) (enabled : Bool) (t : Step (ℕ × ℕ × ℕ × ℕ)) → cases.CreatingSubscription s ms k l m enabled t → KeptKnown known t
-  creates_known ms k l m enabled t (cases.full e) = h
-  creates_known ms k l m enabled t (cases.used_up e) = h
-  creates_known ms k l m enabled t (cases.made e n) = h
+  creates_known : (p : SubscriptionParameters) (enabled : Bool) (t : Step CreatedSubscription) → cases.CreatingSubscription s p enabled t → KeptKnown known t
+  creates_known p enabled t (cases.full e) = h
+  creates_known p enabled t (cases.used_up e) = h
+  creates_known p enabled t (cases.made e n) = h
 
-  modifies_known : (id : ℕ) (ms : ℤ) (k l m : ℕ) (t : Step (ℕ × ℕ × ℕ)) → cases.ModifyingSubscription s id ms k l m t → KeptKnown known t
-  modifies_known id ms k l m t (cases.unknown e) = h
-  modifies_known id ms k l m t (cases.modifies f e) = h
+  modifies_known : (id : ℕ) (p : SubscriptionParameters) (t : Step RevisedSubscription) → cases.ModifyingSubscription s id p t → KeptKnown known t
+  modifies_known id p t (cases.unknown e) = h
+  modifies_known id p t (cases.modifies f e) = h
 
   enables_known : (id : ℕ) (enabled : Bool) (t : Step (Unit {0})) → cases.SettingPublishing s id enabled t → KeptKnown known t
   enables_known id enabled t (cases.unknown e) = h
@@ -102,14 +107,14 @@ module _ (known : ℕ → Since) (s : State) (sound : Sound s) (h : Follows know
   deletes_known id room t (cases.last f e n) = (following_others known id s.items rises).each
   deletes_known id room t (cases.one f e n) = (following_others known id s.items rises).each
 
-  adds_known : (stands : ℕ → Standing) (id node mode : ℕ) (p : MonitoringParameters) (t : Step (ℕ × ℕ × ℕ)) → cases.CreatingItem stands s id node mode p t → KeptKnown known t
+  adds_known : (stands : ℕ → Option Standing) (id node mode : ℕ) (p : MonitoringParameters) (t : Step CreatedItem) → cases.CreatingItem stands s id node mode p t → KeptKnown known t
   adds_known stands id node mode p t (cases.unknown e) = h
   adds_known stands id node mode p t (cases.full e) = h
   adds_known stands id node mode p t (cases.used_up e) = h
   adds_known stands id node mode p t (cases.no_node e) = h
-  adds_known stands id node mode p t (cases.bad kind sample x e c) = h
-  adds_known stands id node mode p t (cases.adds f kind sample checks e n l k c) =
-      let x = new_item s f id node p kind checks in
+  adds_known stands id node mode p t (cases.bad shown x e c) = h
+  adds_known stands id node mode p t (cases.adds f shown checks e n l k c) =
+      let x = new_item s f id node p shown.kind checks in
       let more = after known (Started s.next ∷ []) in
       All-push (λ y. Tracked y (more (item_id y))) s.items x
       (all_both (λ y. item_id y < s.next) (λ y. Tracked y (known (item_id y))) (λ y. Tracked y (more (item_id y)))
@@ -119,7 +124,7 @@ module _ (known : ℕ → Since) (s : State) (sound : Sound s) (h : Follows know
       h)
       (started_this known x refl)
 
-  changes_known : (id item : ℕ) (p : MonitoringParameters) (t : Step (ℕ × ℕ)) → cases.ModifyingItem s id item p t → KeptKnown known t
+  changes_known : (id item : ℕ) (p : MonitoringParameters) (t : Step RevisedItem) → cases.ModifyingItem s id item p t → KeptKnown known t
   changes_known id item p t (cases.unknown e) = h
   changes_known id item p t (cases.no_item e) = h
   changes_known id item p t (cases.bad x y e c) = h
@@ -164,7 +169,7 @@ module _ (known : ℕ → Since) (s : State) (sound : Sound s) (h : Follows know
       found None = h
       found (Some f) = given f (lookup number_of n (kept_of id s.kept))
 
-  ticks_known : (stands : ℕ → Standing) (room : ℕ) (t : Step ℕ) → cases.Ticking stands s room t → KeptKnown known t
+  ticks_known : (stands : ℕ → Option Standing) (room : ℕ) (t : Step ℕ) → cases.Ticking stands s room t → KeptKnown known t
   ticks_known stands room t (cases.short e) = h
   ticks_known stands room t cases.passes_all_lem =
       let es = samplings stands s.items in
@@ -173,9 +178,9 @@ module _ (known : ℕ → Since) (s : State) (sound : Sound s) (h : Follows know
       let r : Following (after known es) q.items = record { rising = rising_map item_id (ticked stands) (ticked_id stands) 0 s.items ∙ sound.monitored.rising; each = follows_sampled stands 0 known s.items sound.monitored.rising h } in
       subst (λ k. Follows k p.shared.items) (after_append known es p.events) (all_following (after known es) s.subscriptions q r).each
 
-  done_known : (stands : ℕ → Standing) (c : Call) → Follows (after known (done_by stands s c).events) (done_by stands s c).state.items
-  done_known stands (CreateSubscription ms n l m enabled) = creates_known ms n l m enabled _ (cases.creating_subscription s ms n l m enabled)
-  done_known stands (ModifySubscription id ms n l m) = modifies_known id ms n l m _ (cases.modifying_subscription s id ms n l m)
+  done_known : (stands : ℕ → Option Standing) (c : Call) → Follows (after known (done_by stands s c).events) (done_by stands s c).state.items
+  done_known stands (CreateSubscription p enabled) = creates_known p enabled _ (cases.creating_subscription s p enabled)
+  done_known stands (ModifySubscription id p) = modifies_known id p _ (cases.modifying_subscription s id p)
   done_known stands (SetPublishingMode id enabled) = enables_known id enabled _ (cases.setting_publishing s id enabled)
   done_known stands (DeleteSubscription id room) = deletes_known id room _ (cases.deleting_subscription s id room)
   done_known stands (CreateItem id node mode p) = adds_known stands id node mode p _ (cases.creating_item stands s id node mode p)

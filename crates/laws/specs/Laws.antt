@@ -39,7 +39,7 @@ abbrev pub HeardIn : ℕ → List Response → List ℕ → Type 0
 HeardIn id rs late = (shows id rs ≡ true) ⊎ In id late
 
 -- in an accepted tick on the state s, of each subscription whose countdown comes to 0: fs are the ones before it
-abbrev pub HeardBy : (ℕ → Standing) → State → Done → Type 0
+abbrev pub HeardBy : (ℕ → Option Standing) → State → Done → Type 0
 HeardBy stands s d =
     (fs : List Figures) (f : Figures) (gs : List Figures) → s.subscriptions ≡ fs ++ f ∷ gs →
     live f.phase ≡ true → runs f ≡ true → DueIn (counted_down f) (passes_all fs (shared_of (sampled_state stands s))).shared →
@@ -48,7 +48,7 @@ HeardBy stands s d =
 
 abbrev pub Heard : ℕ → List Scene → Type 0
 Heard first scenes =
-    (before : List Scene) (stands : ℕ → Standing) (room : ℕ) (after : List Scene) → scenes ≡ before ++ record { stands = stands; call = Tick room } ∷ after →
+    (before : List Scene) (stands : ℕ → Option Standing) (room : ℕ) (after : List Scene) → scenes ≡ before ++ record { stands = stands; call = Tick room } ∷ after →
     (called (final (new_state first) before) (record { stands = stands; call = Tick room })).accepted ≡ true →
     HeardBy stands (final (new_state first) before) (called (final (new_state first) before) (record { stands = stands; call = Tick room }))
 
@@ -133,8 +133,8 @@ joined_ids (Sent x n ∷ es) = joined_ids es
 abbrev pub staying : Bool → Call → List ℕ → List ℕ
 staying true (Publish handle acks room places) late = rest late
 staying true (DeleteSubscription id room) late = without (λ n. n) id late
-staying true (CreateSubscription ms k l m enabled) late = late
-staying true (ModifySubscription id ms k l m) late = late
+staying true (CreateSubscription p enabled) late = late
+staying true (ModifySubscription id p) late = late
 staying true (SetPublishingMode id enabled) late = late
 staying true (CreateItem id node mode p) late = late
 staying true (ModifyItem id item p) late = late

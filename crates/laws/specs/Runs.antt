@@ -1,9 +1,10 @@
 -- Runs of calls.
-use Rattle.std.specs.Prelude.{ℕ, Bool, true, false, cond, ◌||◌, List, [], ◌∷◌, ◌++◌, ℤ, Ok, Err, Result, ◌==◌}
+use Rattle.std.specs.Prelude.{ℕ, Bool, true, false, cond, ◌||◌, List, [], ◌∷◌, ◌++◌, Ok, Err, Result, ◌==◌, Option}
 use Rattle.sources.specs.declared.source.Standing.{Standing}
 use Rattle.messages.specs.declared.response.Response.{Response}
 use Rattle.answers.specs.declared.fault.ServiceFault.{ServiceFault}
 use Rattle.answers.specs.declared.acknowledgement.Acknowledgement.{Acknowledgement}
+use Rattle.subscriptions.specs.declared.parameters.SubscriptionParameters.{SubscriptionParameters}
 use Rattle.model.specs.declared.parameters.MonitoringParameters.{MonitoringParameters}
 use Rattle.model.specs.State.{State}
 use Rattle.model.specs.Steps.{Event, Step}
@@ -16,8 +17,8 @@ use Rattle.model.specs.Tick.{tick}
 -- a call with its arguments; the last numbers of DeleteSubscription and Tick are how many places the response list has, those
 -- of Publish how many the response list and the list of results have
 pub data Call : Type 0 where
-  CreateSubscription : ℤ → ℕ → ℕ → ℕ → Bool → Call
-  ModifySubscription : ℕ → ℤ → ℕ → ℕ → ℕ → Call
+  CreateSubscription : SubscriptionParameters → Bool → Call
+  ModifySubscription : ℕ → SubscriptionParameters → Call
   SetPublishingMode : ℕ → Bool → Call
   DeleteSubscription : ℕ → ℕ → Call
   CreateItem : ℕ → ℕ → ℕ → MonitoringParameters → Call
@@ -30,7 +31,7 @@ pub data Call : Type 0 where
 
 -- a call, and what the source stands at when it is made
 pub record Scene : Type 0 where
-  pub stands : ℕ → Standing
+  pub stands : ℕ → Option Standing
   pub call : Call
 
 -- what a call did: the next state, whether it was accepted, its responses and its events
@@ -47,9 +48,9 @@ accepted_by (Err e) = false
 abbrev pub done : {X : Type 0} → Step X → Done
 done t = record { state = t.state; accepted = accepted_by t.answer; responses = t.responses; events = t.events }
 
-abbrev pub done_by : (ℕ → Standing) → State → Call → Done
-done_by stands s (CreateSubscription ms k l m enabled) = done (create_subscription s ms k l m enabled)
-done_by stands s (ModifySubscription id ms k l m) = done (modify_subscription s id ms k l m)
+abbrev pub done_by : (ℕ → Option Standing) → State → Call → Done
+done_by stands s (CreateSubscription p enabled) = done (create_subscription s p enabled)
+done_by stands s (ModifySubscription id p) = done (modify_subscription s id p)
 done_by stands s (SetPublishingMode id enabled) = done (set_publishing_mode s id enabled)
 done_by stands s (DeleteSubscription id room) = done (delete_subscription s id room)
 done_by stands s (CreateItem id node mode p) = done (create_item stands s id node mode p)
@@ -81,8 +82,8 @@ events s (c ∷ cs) = (called s c).events ++ events (called s c).state cs
 -- the handle of a Publish call
 abbrev pub handle_if : Bool → Call → List ℕ
 handle_if true (Publish handle acks room places) = handle ∷ []
-handle_if true (CreateSubscription ms k l m enabled) = []
-handle_if true (ModifySubscription id ms k l m) = []
+handle_if true (CreateSubscription p enabled) = []
+handle_if true (ModifySubscription id p) = []
 handle_if true (SetPublishingMode id enabled) = []
 handle_if true (DeleteSubscription id room) = []
 handle_if true (CreateItem id node mode p) = []
@@ -119,8 +120,8 @@ answered id s (c ∷ cs) = answers_to id (asked_by s c) (called s c).responses |
 -- whether a call is an accepted deletion of the subscription
 abbrev pub deletes : ℕ → Bool → Call → Bool
 deletes id true (DeleteSubscription id' room) = id' == id
-deletes id true (CreateSubscription ms k l m enabled) = false
-deletes id true (ModifySubscription id' ms k l m) = false
+deletes id true (CreateSubscription p enabled) = false
+deletes id true (ModifySubscription id' p) = false
 deletes id true (SetPublishingMode id' enabled) = false
 deletes id true (CreateItem id' node mode p) = false
 deletes id true (ModifyItem id' item p) = false

@@ -2,6 +2,8 @@
 // Argument: the number of ticks. Prints how many responses and notifications the ticks sent, and a checksum of them.
 #![tactic(auto)]
 
+ghost use Rattle.std.specs.Prelude.{◌≤◌};
+
 use answers::acknowledgement::{Acknowledgement, AcknowledgementResult};
 use answers::fault::ServiceFault;
 use anyhow::anyhow;
@@ -9,15 +11,17 @@ use engine::engine::Engine;
 use messages::response::{Response, ResponseKind};
 use model::parameters::MonitoringParameters;
 use sources::image::ProcessImage;
-use std::env;
 use std::num::f64_to_bits_with_nan;
+use std::{array, env};
+use subscriptions::parameters::SubscriptionParameters;
 use values::check::RequestedFilter;
 use values::notification::Notification;
 use values::value::{Sample, Value};
 
-const NODES: u32 = 32;
-
+// The nodes are FIRST_NODE and those after it; the items on them have the client handles 0, 1 and so on.
 const FIRST_NODE: u32 = 1000;
+
+const END_NODE: u32 = 1032;
 
 // A xorshift generator.
 #[derive(Clone, Copy)]
@@ -54,6 +58,7 @@ impl Totals {
             Value::Double(x) => f64_to_bits_with_nan(x),
             _ => 0,
         };
+        // Wrapping, since nothing bounds how many a run sends.
         self.notifications = self.notifications.wrapping_add(1);
         self.checksum = self
             .checksum
@@ -91,34 +96,34 @@ struct Plant {
 }
 
 // Shows a node's value with a time.
-fn show(image: &mut ProcessImage, n: u32, value: f64, time: i64) -> Result<(), ServiceFault> {
+fn show(image: &mut ProcessImage, node: u32, value: f64, time: i64) -> Result<(), ServiceFault> {
     let sample = Sample {
         value: Value::Double(value),
         status: 0,
         time,
     };
-    image.write(FIRST_NODE.wrapping_add(n), 11, sample)?;
+    image.write(node, 11, sample)?;
     Ok(())
 }
 
 impl Plant {
     fn new() -> Result<Plant, ServiceFault> {
         let mut image = ProcessImage::new();
-        let mut values = [0.0; 32];
-        for n in 0..NODES {
-            values[n as usize] = f64::from(n);
-            show(&mut image, n, f64::from(n), 0)?;
+        let values = array::from_fn(|n| n as f64);
+        for (node, value) in (FIRST_NODE..END_NODE).zip(&values) {
+            show(&mut image, node, *value, 0)?;
         }
         Ok(Plant { image, values })
     }
 
     // The values of the nodes whose bit is set rise by 1.
-    fn raise(&mut self, bits: u32, time: i64) -> Result<(), ServiceFault> {
-        for n in 0..NODES {
-            if bits >> n & 1 == 1 {
-                self.values[n as usize] += 1.0;
-                show(&mut self.image, n, self.values[n as usize], time)?;
+    fn raise(&mut self, mut bits: u32, time: i64) -> Result<(), ServiceFault> {
+        for (node, value) in (FIRST_NODE..END_NODE).zip(&mut self.values) {
+            if bits & 1 == 1 {
+                *value += 1.0;
+                show(&mut self.image, node, *value, time)?;
             }
+            bits >>= 1;
         }
         Ok(())
     }
@@ -138,17 +143,23 @@ fn parameters(client_handle: u32) -> MonitoringParameters {
     }
 }
 
-// A subscription and its eight items, on the nodes from `first` on.
+// A subscription and its eight items, with the client handles from `first` on.
 fn subscribe(
     engine: &mut Engine,
     image: &ProcessImage,
     first: u32,
-) -> Result<Subscriber, ServiceFault> {
-    let (id, _, _, _) = engine.create_subscription(50, 10, 30, 16, true)?;
-    for k in 0..8 {
-        let n = first.wrapping_add(k);
-        let node = FIRST_NODE.wrapping_add(n);
-        let _ = engine.create_item(image, id, node, 2, &parameters(n))?;
+) -> Result<Subscriber, ServiceFault>
+    requires { first ≤ 24 }
+{
+    let requested = SubscriptionParameters {
+        milliseconds: 50,
+        keep_alive: 10,
+        lifetime: 30,
+        limit: 16,
+    };
+    let id = engine.create_subscription(requested, true)?.id;
+    for handle in first..first + 8 {
+        engine.create_item(image, id, FIRST_NODE + handle, 2, &parameters(handle))?;
     }
     Ok(Subscriber { id, number: None })
 }
@@ -172,10 +183,10 @@ fn publish(
 }
 
 // The number to acknowledge after a response to the subscriber.
-fn note(subscribers: &mut [Subscriber; 4], response: &Response) {
-    for i in 0..4 {
-        if subscribers[i].id == response.subscription {
-            subscribers[i].number = match response.kind {
+fn note(subscribers: &mut [Subscriber], response: &Response) {
+    for subscriber in subscribers {
+        if subscriber.id == response.subscription {
+            subscriber.number = match response.kind {
                 ResponseKind::Notifications => Some(response.number),
                 _ => None,
             };
@@ -224,13 +235,9 @@ impl Load {
     fn tick(&mut self, t: u32, responses: &mut [Response]) -> Result<(), ServiceFault> {
         let bits = self.generator.next();
         self.plant.raise(bits, i64::from(t))?;
-        for i in 0..4 {
-            let _ = publish(
-                &mut self.engine,
-                self.subscribers[i],
-                self.handle,
-                responses,
-            )?;
+        for subscriber in self.subscribers {
+            publish(&mut self.engine, subscriber, self.handle, responses)?;
+            // Wrapping: a request may have any handle.
             self.handle = self.handle.wrapping_add(1);
         }
         let count = self.engine.tick(&self.plant.image, responses)?;
@@ -266,9 +273,7 @@ fn main(rt: HostRuntime) -> anyhow::Result<()> {
         return Err(anyhow!("the argument is not a number of ticks"));
     };
     let mut responses = [Response::no_subscription(0); 8];
-    let Ok(totals) = run(ticks, &mut responses) else {
-        return Err(anyhow!("a call was refused"));
-    };
+    let totals = run(ticks, &mut responses).map_err(|_| anyhow!("a call was refused"))?;
     let count = totals.responses;
     let notifications = totals.notifications;
     let checksum = totals.checksum;

@@ -14,11 +14,10 @@ fn acknowledge(state: &mut EngineState, acknowledgement: Acknowledgement) -> Ack
     ensures after { state_of state.new ≡ after_acknowledging (state_of state.old) (all_acknowledged (acknowledgement ∷ []) (slots state.old.subscriptions) (rows state.old.kept)) }
     ensures value { result ≡ (acknowledged acknowledgement (slots state.old.subscriptions) (rows state.old.kept)).result }
 {
-    let Some(mut subscription) = find_live(state, acknowledgement.subscription) else {
+    let Some(subscription) = find_live(state, acknowledgement.subscription) else {
         return AcknowledgementResult::SubscriptionIdInvalid;
     };
-    subscription.reset_idle();
-    state.subscriptions.replace(subscription);
+    state.reset_idle(subscription);
     let known = state
         .kept
         .acknowledge(acknowledgement.subscription, acknowledgement.number);
@@ -39,7 +38,7 @@ pub fn acknowledge_all(
     ensures after { state_of state.new ≡ after_acknowledging (state_of state.old) (all_acknowledged acknowledgements.now (slots state.old.subscriptions) (rows state.old.kept)) }
     ensures results { results.new ≡ over (all_acknowledged acknowledgements.now (slots state.old.subscriptions) (rows state.old.kept)).results results.old }
 {
-    for i in 0..acknowledgements.len() {
-        results[i] = acknowledge(state, acknowledgements[i]);
+    for (i, acknowledgement) in acknowledgements.iter().enumerate() {
+        results[i] = acknowledge(state, *acknowledgement);
     }
 }

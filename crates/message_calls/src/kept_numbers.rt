@@ -4,7 +4,6 @@ ghost use Rattle.model.specs.State.{state_of};
 ghost use Rattle.model.specs.Queries.{shown_by, numbers_kept};
 
 use answers::fault::ServiceFault;
-use model::live::find_live;
 use model::state::EngineState;
 use numbers::numbers::Numbers;
 
@@ -12,8 +11,6 @@ use numbers::numbers::Numbers;
 pub fn kept_numbers(state: &EngineState, subscription: u32) -> Result<Numbers, ServiceFault>
     ensures { shown_by items result ≡ numbers_kept (state_of state.now) subscription }
 {
-    let Some(_) = find_live(state, subscription) else {
-        return Err(ServiceFault::SubscriptionIdInvalid(subscription));
-    };
+    state.live_subscription(subscription)?;
     Ok(state.kept.numbers(subscription))
 }

@@ -4,7 +4,6 @@ ghost use Rattle.model.specs.Republish.{republish, filled, accepted};
 
 use answers::fault::ServiceFault;
 use messages::message::Message;
-use model::live::find_live;
 use model::state::EngineState;
 
 // Fills `message` with a kept message, as it was sent.
@@ -18,14 +17,11 @@ pub fn republish(
     ensures value { result ≡ accepted (republish (state_of state.old) subscription number).answer }
     ensures filled { message.new ≡ filled (republish (state_of state.old) subscription number).answer message.old }
 {
-    let Some(mut owner) = find_live(state, subscription) else {
-        return Err(ServiceFault::SubscriptionIdInvalid(subscription));
-    };
-    let Some(found) = state.kept.find(subscription, number) else {
-        return Err(ServiceFault::MessageNotAvailable(number));
-    };
-    *message = found;
-    owner.reset_idle();
-    state.subscriptions.replace(owner);
+    let owner = state.live_subscription(subscription)?;
+    *message = state
+        .kept
+        .find(subscription, number)
+        .ok_or(ServiceFault::MessageNotAvailable(number))?;
+    state.reset_idle(owner);
     Ok(())
 }

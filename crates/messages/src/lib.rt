@@ -1,5 +1,7 @@
+// Messages, and the responses that carry them.
 #![tactic(auto)]
 
 pub mod message;
 pub mod notifications;
+mod padded;
 pub mod response;

@@ -1,11 +1,11 @@
-ghost use Rattle.std.specs.Prelude.{◌≡◌, false, [], length};
+ghost use Rattle.std.specs.Prelude.{◌≡◌, false, []};
 ghost use Rattle.numbers.specs.Items.{items};
-ghost use Rattle.messages.specs.Padded.{padded, counted};
 ghost use Rattle.messages.specs.Messages.{message_of, carried};
 ghost use Rattle.messages.specs.Responses.{letter_of, response_of, notifying, keeping_alive, changing_status, refusing, kept_shown, notifications_shown};
 ghost use Rattle.messages.specs.declared.response.ResponseKind.TheVariants.{TooManyRequests, NoSubscription};
 
 use crate::message::Message;
+use crate::padded::padded;
 use numbers::numbers::Numbers;
 use values::notification::Notification;
 
@@ -20,7 +20,8 @@ pub enum ResponseKind {
 }
 
 // The response to the request `handle`: the first `kept_count` of the kept numbers and the first `count` of the
-// notifications, with zeros and empty notifications behind them. What a kind does not use is 0, false or empty.
+// notifications, with zeros and empty notifications behind them. What a kind does not use is 0, false or empty. Arrays with
+// their counts for the reason given at `Message`.
 #[derive(Clone, Copy)]
 pub struct Response {
     pub kind: ResponseKind,
@@ -35,7 +36,7 @@ pub struct Response {
 }
 
 impl ResponseKind {
-    // The letter that a log shows.
+    // The letter that a log shows. Not by Display: programs print it, and tests compare it, as a char.
     pub fn letter(self) -> char
         ensures { result ≡ letter_of self }
     {
@@ -47,17 +48,6 @@ impl ResponseKind {
             ResponseKind::NoSubscription => 'O',
         }
     }
-}
-
-// The kept numbers, and zeros behind them.
-fn zero_padded(numbers: &Numbers) -> [u32; 8]
-    ensures value { result ≡ padded 8 0 (items numbers.now) }
-    ensures shown { counted 8 (length (items numbers.now)) result ≡ items numbers.now }
-{
-    let slice = numbers.as_slice();
-    let mut array = [0; 8];
-    array[0..slice.len()].copy_from_slice(slice);
-    array
 }
 
 impl Response {
@@ -95,7 +85,7 @@ impl Response {
             handle,
             subscription,
             number: message.number,
-            kept: zero_padded(kept),
+            kept: padded(kept, 0),
             kept_count: kept.len(),
             more,
             notifications: message.notifications,
@@ -109,7 +99,7 @@ impl Response {
         ensures kept { kept_shown result ≡ items kept.now }
     {
         Response {
-            kept: zero_padded(kept),
+            kept: padded(kept, 0),
             kept_count: kept.len(),
             ..Response::bare(ResponseKind::KeepAlive, handle, subscription, number)
         }

@@ -1,7 +1,9 @@
 -- The calls on subscriptions, each as a step.
-use Rattle.std.specs.Prelude.{ℕ, ◌+◌, Bool, true, false, cond, [], ◌∷◌, ◌++◌, map, length, ℤ, ◌==◌, nat_lt}
+use Rattle.std.specs.Prelude.{ℕ, ◌+◌, Bool, true, false, cond, [], ◌∷◌, ◌++◌, map, length, ◌==◌, nat_lt}
 use Rattle.fifo.specs.Lists.{none, replaced, without}
 use Rattle.subscriptions.specs.declared.figures.Figures.{Figures}
+use Rattle.subscriptions.specs.declared.parameters.SubscriptionParameters.{SubscriptionParameters}
+use Rattle.subscriptions.specs.declared.parameters.RevisedSubscription.{RevisedSubscription}
 use Rattle.subscriptions.specs.Keys.{id_of}
 use Rattle.subscriptions.specs.Changes.{created, modified, publishing}
 use Rattle.subscriptions.specs.Revision.{revision, answer_of}
@@ -10,28 +12,28 @@ use Rattle.retransmission.specs.Rows.{opening, subscription_of}
 use Rattle.messages.specs.declared.response.ResponseKind.TheVariants.{NoSubscription}
 use Rattle.messages.specs.Responses.{refusing}
 use Rattle.answers.specs.declared.fault.ServiceFault.TheVariants.{ListTooShort, TooManySubscriptions, IdsUsedUp}
+use Rattle.model.specs.declared.revised.CreatedSubscription.{CreatedSubscription}
 use Rattle.model.specs.State.{State, live_in, with_subscriptions, with_requests}
 use Rattle.model.specs.Steps.{Step, refused, answers, sends, for_live}
 
 -- a new subscription takes the next id and a slot; nothing of it is kept yet
-abbrev pub creates : State → Figures → Step (ℕ × ℕ × ℕ × ℕ)
+abbrev pub creates : State → Figures → Step CreatedSubscription
 creates s f =
     answers
     (record { next = s.next + 1; subscriptions = s.subscriptions ++ f ∷ []; items = s.items; kept = opening f.id s.kept; requests = s.requests; late = s.late })
-    (f.id, f.revised.interval, f.revised.keep_alive, f.revised.lifetime)
+    (record { id = f.id; revised = answer_of f.revised })
     []
 
--- milliseconds, keep-alive count, lifetime count, notifications of a message, publishing enabled
-abbrev pub create_subscription : State → ℤ → ℕ → ℕ → ℕ → Bool → Step (ℕ × ℕ × ℕ × ℕ)
-create_subscription s ms k l m enabled =
+abbrev pub create_subscription : State → SubscriptionParameters → Bool → Step CreatedSubscription
+create_subscription s p enabled =
     cond (length s.subscriptions == 4) (refused s TooManySubscriptions)
     (cond (nat_lt 4294967295 s.next) (refused s IdsUsedUp)
-    (creates s (created s.next (revision ms k l m) enabled)))
+    (creates s (created s.next (revision p) enabled)))
 
-abbrev pub modify_subscription : State → ℕ → ℤ → ℕ → ℕ → ℕ → Step (ℕ × ℕ × ℕ)
-modify_subscription s id ms k l m =
+abbrev pub modify_subscription : State → ℕ → SubscriptionParameters → Step RevisedSubscription
+modify_subscription s id p =
     for_live (live_in id s.subscriptions) s id
-    (λ f. answers (with_subscriptions s (replaced id_of (modified (revision ms k l m) f) s.subscriptions)) (answer_of (revision ms k l m)) [])
+    (λ f. answers (with_subscriptions s (replaced id_of (modified (revision p) f) s.subscriptions)) (answer_of (revision p)) [])
 
 abbrev pub set_publishing_mode : State → ℕ → Bool → Step (Unit {0})
 set_publishing_mode s id enabled =

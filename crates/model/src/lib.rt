@@ -3,4 +3,5 @@
 
 pub mod live;
 pub mod parameters;
+pub mod revised;
 pub mod state;

@@ -1,4 +1,4 @@
-// A bounded first-in-first-out sequence of numbers: an array of eight with a count.
+// Lists of handles, ids and sequence numbers.
 #![tactic(auto)]
 
 pub mod numbers;

@@ -1,7 +1,7 @@
 -- The loop over the slots in a tick.
-use Rattle.std.proofs.Common.{◌≡◌, ℕ, ◌+◌, ◌-◌, ◌<◌, ◌≤◌, Bool, true, false, List, [], ◌∷◌, ◌++◌, length, get_or, take, drop, set, sym, refl, ap, ◌∙◌, ap₂, append_assoc, arith, length-append, length-set}
-use lib.Seq.{sets, sets-eq}
-use Rattle.std.proofs.lemmas.List.{drop_more, take_more_set, drop-set-lt, take_at, drop_at, append-nil, take_all, drop_all, length-take-le, length_push, drop-drop, take-append-drop}
+use Rattle.std.proofs.Common.{◌≡◌, ℕ, ◌+◌, ◌-◌, ◌<◌, ◌≤◌, Bool, true, false, List, [], ◌∷◌, ◌++◌, length, get_or, take, drop, set, sym, ap, ◌∙◌, ap₂, append_assoc, arith, length-append, length-set}
+use lib.Seq.{sets, sets-eq, length-sets}
+use Rattle.std.proofs.lemmas.List.{drop_more, take_more_set, drop-set-lt, take_at, drop_at, length-take-le, length_push, drop-drop}
 use Rattle.subscriptions.specs.declared.figures.Figures.{Figures}
 use Rattle.subscriptions.specs.declared.figures.Outcome.{Outcome}
 use Rattle.subscriptions.specs.declared.figures.Outcome.TheVariants.{Rests, Sends, Joins, Ends}
@@ -10,12 +10,12 @@ use Rattle.subscriptions.specs.Changes.{joined, counted_down, runs}
 use Rattle.subscriptions.specs.Cycle.{cycle}
 use Rattle.subscription_table.specs.Slots.{blank}
 use Rattle.items.specs.Item.{Item}
-use Rattle.item_table.specs.Turn.{any_waits, over}
+use Rattle.item_table.specs.Turn.{any_waits}
 use Rattle.retransmission.specs.Rows.{Kept}
 use Rattle.messages.specs.declared.response.Response.{Response}
 use Rattle.model.specs.State.{State}
 use Rattle.model.specs.Messages.{Sending, message}
-use Rattle.model.specs.Tick.{Shared, Passed, Pass, messages, onward, still_due, acts, asked, counts, passes_live, passes, passes_all, passes_at, passed, shared_of, leaves}
+use Rattle.model.specs.Tick.{Shared, Passed, Pass, messages, onward, still_due, acts, asked, counts, passes_live, passes, passes_all, passes_at, passed, shared_of}
 
 -- no more is sent than requests are taken, and at most one id joins the late list
 abbrev Sized : Passed → List ℕ → List ℕ → Type 0
@@ -59,11 +59,9 @@ pub record Passing (s₀ : State) (out₀ : List Response) (i count : ℕ) (s : 
   pub shared : (ahead i s).shared ≡ (passed s₀).shared
   pub sent : take count out ++ (ahead i s).responses ≡ (passed s₀).responses
   pub behind : drop count out ≡ drop count out₀
+  pub long : length out ≡ length out₀
   pub space : count + length s.requests ≤ 8
   pub room : length s.late + (length s.subscriptions - i) ≤ 8
-
-pub starts : (s : State) (out : List Response) → length s.requests ≤ 8 → length s.late ≤ 4 → length s.subscriptions ≤ 4 → Passing s out 0 0 s out
-starts s out r l n = record { next = refl; size = refl; subscriptions = refl; shared = refl; sent = refl; behind = refl; space = omega arith; room = omega arith }
 
 module _ (s₀ : State) (out₀ : List Response) (i count : ℕ) (s : State) (out : List Response) (g : Passing s₀ out₀ i count s out) (lt : i < length s.subscriptions) (long : 8 ≤ length out) where
   fits : count + length (passes_at s i).responses ≤ length out
@@ -96,17 +94,7 @@ module _ (s₀ : State) (out₀ : List Response) (i count : ℕ) (s : State) (ou
             ap (drop count') eo' ∙ drop_at (take count out ++ sent) _ count' n
             ∙ sym (drop-drop (length sent) count out) ∙ ap (drop (length sent)) g.behind
             ∙ drop-drop (length sent) count out₀ ∙ ap (λ k. drop k out₀) (sym ec);
+        long = ap length eo ∙ length-sets out count sent ∙ g.long;
         space = let b = g.space in let e = ap (λ q. length q.requests) eq in omega arith;
         room = let b = g.room in let e = ap (λ q. length q.late) eq in let z = ap length es ∙ length-set s.subscriptions i (passes_at s i).figures in omega arith;
       }
-
-pub comes : (s₀ : State) (out₀ : List Response) (i count : ℕ) (s : State) (out : List Response) → Passing s₀ out₀ i count s out → length s.subscriptions ≤ i → count ≤ length out → (s ≡ leaves s₀ (passed s₀)) × (count ≡ length (passed s₀).responses) × (out ≡ over (passed s₀).responses out₀)
-comes s₀ out₀ i count s out g le short =
-    let d : drop i s.subscriptions ≡ [] = drop_all i s.subscriptions le in
-    let a : ahead i s ≡ passes_all [] (shared_of s) = ap (λ l. passes_all l (shared_of s)) d in
-    let fs : s.subscriptions ≡ (passed s₀).subscriptions
-    = sym (take_all i s.subscriptions le) ∙ sym (append-nil (take i s.subscriptions)) ∙ ap (λ l. take i s.subscriptions ++ l) (sym (ap (λ p. p.subscriptions) a)) ∙ g.subscriptions in
-    let q : shared_of s ≡ (passed s₀).shared = sym (ap (λ p. p.shared) a) ∙ g.shared in
-    let sent : take count out ≡ (passed s₀).responses = sym (append-nil (take count out)) ∙ ap (λ l. take count out ++ l) (sym (ap (λ p. p.responses) a)) ∙ g.sent in
-    let n : count ≡ length (passed s₀).responses = sym (length-take-le count out short) ∙ ap length sent in
-    (λ j. record { next = g.next j; subscriptions = fs j; items = (q j).items; kept = (q j).kept; requests = (q j).requests; late = (q j).late }, n, sym (take-append-drop count out) ∙ ap₂ (λ x y. x ++ y) sent (g.behind ∙ ap (λ k. drop k out₀) n))

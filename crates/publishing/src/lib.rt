@@ -2,4 +2,5 @@
 #![tactic(auto)]
 
 mod cycle;
+mod responses;
 pub mod tick;

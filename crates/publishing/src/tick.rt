@@ -5,6 +5,7 @@ ghost use Rattle.model.specs.State.{state_of};
 ghost use Rattle.model.specs.Tick.{tick, passed, leaves};
 
 use crate::cycle::pass_slot;
+use crate::responses::Responses;
 use answers::fault::ServiceFault;
 use messages::response::Response;
 use model::state::EngineState;
@@ -18,11 +19,12 @@ fn pass_all(state: &mut EngineState, responses: &mut [Response]) -> usize
     ensures value { result ≡ length (passed (state_of state.old)).responses }
     ensures responses { responses.new ≡ over (passed (state_of state.old)).responses responses.old }
 {
-    let mut count = 0;
+    let mut responses = Responses::new(responses);
+    // By index: a pass writes the state, and the table of subscriptions is a part of it.
     for i in 0..state.subscriptions.len() {
-        count = pass_slot(state, i, responses, count);
+        pass_slot(state, i, &mut responses);
     }
-    count
+    responses.written
 }
 
 // One tick: the sampling pass over the items, then the pass over the subscriptions.

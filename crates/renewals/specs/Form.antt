@@ -1,9 +1,7 @@
 -- The form of a line, apart from how it is read.
-use Rattle.std.specs.Prelude.{◌≡◌, ℕ, ◌+◌, ◌-◌, ◌*◌, ◌<◌, true, ◌⊎◌, List, [], ◌∷◌, ◌++◌, length, decimal, fold}
+use Rattle.std.specs.Prelude.{◌≡◌, ℕ, ◌+◌, ◌-◌, ◌*◌, ◌<◌, true, ◌⊎◌, List, [], ◌∷◌, ◌++◌, length, decimal, fold, Ok, Err, Some, None}
 use Rattle.sources.specs.Table.{every}
-use Rattle.renewals.specs.declared.line.Line.{Line}
-use Rattle.renewals.specs.declared.line.Line.TheVariants.{Blank, Entry, Unreadable}
-use Rattle.renewals.specs.Line.{is_digit, is_blank}
+use Rattle.renewals.specs.Line.{Line, entry_line, is_digit, is_blank}
 
 -- bytes of one form, and then bytes of another
 pub record Then (P Q : List ℕ → Type 0) (bytes : List ℕ) : Type 0 where
@@ -41,10 +39,10 @@ EntryLine node day = Then Blanks (Then (Number node) (Then Gap (Then (Number day
 
 -- a line says just what it has the form of
 abbrev pub Says : List ℕ → Line → Type 0
-Says bytes Blank = BlankLine bytes
-Says bytes (Entry node day) = EntryLine node day bytes
-Says bytes Unreadable = (BlankLine bytes → ⊥) × ((node day : ℕ) → EntryLine node day bytes → ⊥)
+Says bytes (Ok None) = BlankLine bytes
+Says bytes (Ok (Some row)) = EntryLine row.node row.end_day bytes
+Says bytes (Err e) = (BlankLine bytes → ⊥) × ((node day : ℕ) → EntryLine node day bytes → ⊥)
 
 -- a node and a day written in decimal, with a space between them, are read back as they are
 abbrev pub ReadsBack : List ℕ → Line → Type 0
-ReadsBack bytes l = (node day : ℕ) → node < 4294967296 → day < 4294967296 → bytes ≡ decimal node ++ 32 ∷ decimal day → l ≡ Entry node day
+ReadsBack bytes l = (node day : ℕ) → node < 4294967296 → day < 4294967296 → bytes ≡ decimal node ++ 32 ∷ decimal day → l ≡ entry_line node day

@@ -1,21 +1,16 @@
 -- The days left of each node, and what they mean.
-use Rattle.std.specs.Prelude.{◌≡◌, ℕ, ◌<◌, ◌≤◌, Bool, true, false, cond, ◌⊎◌, List, map, length, ℤ, pos, negsuc, ◌<ℤ◌, count_by, nat_le, slice_index_or}
+use Rattle.std.specs.Prelude.{◌≡◌, ℕ, ◌<◌, ◌≤◌, Bool, true, false, cond, ◌⊎◌, List, map, length, ℤ, pos, negsuc, ◌<ℤ◌, count_by, nat_le, slice_index_or, Option, Some, None}
 use Rattle.std.specs.List.{AllByRecursion}
 use Rattle.values.specs.declared.value.Value.{Value}
 use Rattle.values.specs.declared.value.Value.TheVariants as value
 use Rattle.sources.specs.declared.certificates.Certificates.{Certificates}
 use Rattle.sources.specs.declared.rows.Expiry.{Expiry}
 use Rattle.sources.specs.declared.source.Standing.{Standing}
-use Rattle.sources.specs.declared.source.Standing.TheVariants.{Unknown, Known}
 use Rattle.sources.specs.Certificates.{certificate_rows, today_of, certificates_stand}
 use Rattle.renewals.specs.declared.report.Verdict.{Verdict}
 use Rattle.renewals.specs.declared.report.Verdict.TheVariants.{Expired, Renew, Valid}
 use Rattle.renewals.specs.declared.report.Remaining.{Remaining}
 use Rattle.renewals.specs.declared.report.Counts.{Counts}
-
--- the element that a read behind the end of a list stands for
-abbrev pub no_entry : Remaining
-no_entry = record { days_left = pos 0; node = 0 }
 
 -- below 0 days the certificate has expired; up to the limit it is to be renewed
 abbrev pub verdict_of : ℤ → ℕ → Verdict
@@ -48,21 +43,21 @@ days_in (value.Boolean b) = pos 0
 days_in (value.Int32 days) = days
 days_in (value.Double x) = pos 0
 
-abbrev pub days_at : Standing → ℤ
-days_at Unknown = pos 0
-days_at (Known kind sample) = days_in sample.value
+abbrev pub days_at : Option Standing → ℤ
+days_at None = pos 0
+days_at (Some t) = days_in t.sample.value
 
 -- the node is known, and what it shows is a number of days
-abbrev pub ShowsDays : Standing → Type 0
-ShowsDays Unknown = ⊥
-ShowsDays (Known kind sample) = sample.value ≡ value.Int32 (days_in sample.value)
+abbrev pub ShowsDays : Option Standing → Type 0
+ShowsDays None = ⊥
+ShowsDays (Some t) = t.sample.value ≡ value.Int32 (days_in t.sample.value)
 
 -- what the certificates stand at for a node
-abbrev pub standing_at : Certificates → ℕ → Standing
+abbrev pub standing_at : Certificates → ℕ → Option Standing
 standing_at certificates node = certificates_stand (today_of certificates) (certificate_rows certificates) node
 
 -- the entry of a row: its node, with the days left at which the source stands for that node
-abbrev pub entry_of : (ℕ → Standing) → Expiry → Remaining
+abbrev pub entry_of : (ℕ → Option Standing) → Expiry → Remaining
 entry_of stands row = record { days_left = days_at (stands row.node); node = row.node }
 
 -- an entry for each row

@@ -3,9 +3,10 @@ ghost use Rattle.sources.specs.Certificates.{certificate_rows, today_of, Unchang
 ghost use Rattle.renewals.specs.Line.{reading};
 ghost use Rattle.renewals.specs.Entries.{line_answer, rows_after_line};
 
-use crate::line::{Line, read_line};
+use crate::line::read_line;
 use crate::problem::Problem;
 use sources::certificates::Certificates;
+use sources::rows::Expiry;
 
 // Enters what the line says; a blank line is passed over, and a problem changes nothing.
 pub fn enter_line(certificates: &mut Certificates, line: &[u8]) -> Result<(), Problem>
@@ -14,9 +15,8 @@ pub fn enter_line(certificates: &mut Certificates, line: &[u8]) -> Result<(), Pr
     ensures today { today_of certificates.new ≡ today_of certificates.old }
     ensures refused { is_ok result ≡ false → Unchanged certificates.old certificates.new }
 {
-    match read_line(line) {
-        Line::Blank => Ok(()),
-        Line::Entry { node, end_day } => Ok(certificates.enter(node, end_day)?),
-        Line::Unreadable => Err(Problem::Unreadable),
+    if let Some(Expiry { node, end_day }) = read_line(line)? {
+        certificates.enter(node, end_day)?;
     }
+    Ok(())
 }

@@ -1,7 +1,8 @@
 ghost use Rattle.std.specs.Prelude.{◌≡◌};
 ghost use Rattle.renewals.specs.Texts.{problem_text};
-ghost use Rattle.renewals.specs.declared.problem.Problem.TheVariants.{Refused};
+ghost use Rattle.renewals.specs.declared.problem.Problem.TheVariants.{Unreadable, Refused};
 
+use crate::line;
 use sources::fault::SourceFault;
 use std::fmt;
 
@@ -12,6 +13,17 @@ pub enum Problem {
     Refused(SourceFault),
 }
 
+impl From<line::Unreadable> for Problem {
+    ghost from_gives = { λ e r. r ≡ Unreadable };
+
+    fn from(_: line::Unreadable) -> Problem
+        ensures { result ≡ Problem.Unreadable }
+    {
+        Self::Unreadable
+    }
+}
+
+// Written by hand: what a derive of thiserror converts by `?` has no contract.
 impl From<SourceFault> for Problem {
     ghost from_gives = { λ e r. r ≡ Refused e };
 
@@ -29,9 +41,7 @@ impl fmt::Display for Problem {
         match self {
             Problem::Unreadable => write!(f, "cannot be read"),
             Problem::Refused(fault) => {
-                let number = fault.refusal().number;
-                let name = fault.name();
-                write!(f, "refused {number} {name}")
+                write!(f, "refused {} {}", fault.refusal().number, fault.name())
             }
         }
     }

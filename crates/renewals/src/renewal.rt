@@ -1,57 +1,43 @@
 ghost use Rattle.std.specs.Prelude.{◌≡◌, IfOk, count_by};
 ghost use Rattle.std.specs.List.Sorted.{IsPermutation};
-ghost use Rattle.sources.specs.Certificates.{certificate_rows};
 ghost use Rattle.renewals.specs.Report.{verdict_of, judged, counts_of, ShowsDays, standing_at, entry_of, entries_of, AllShowDays, InOrder};
 
 use crate::report::{Counts, Remaining, Verdict};
 use sources::certificates::Certificates;
 use sources::rows::Expiry;
-use sources::source::{Source, Standing};
+use sources::source::Source;
 use std::alloc::{AllocError, Global};
-use values::value::{Sample, Value};
+use values::value::Value;
 
-// The rows of the source, each of which the source shows as a number of days.
-fn dated_rows(certificates: &Certificates) -> &[Expiry]
-    ensures value { result.now ≡ certificate_rows certificates.now }
-    ensures known { AllShowDays certificates.now }
-{
-    certificates.rows()
-}
-
+// The entry of a row, at whose node the source shows a number of days.
 fn entry_of(certificates: &Certificates, row: &Expiry) -> Remaining
     requires { ShowsDays (standing_at certificates.now row.now.node) }
     ensures { result ≡ entry_of (standing_at certificates.now) row.now }
 {
-    match certificates.query(row.node) {
-        Standing::Known(
-            _,
-            Sample {
-                value: Value::Int32(days_left),
-                ..
-            },
-        ) => {
-            Remaining {
-                days_left,
-                node: row.node,
-            }
-        }
+    match certificates
+        .query(row.node)
+        .map(|standing| standing.sample.value)
+    {
+        Some(Value::Int32(days_left)) => Remaining {
+            days_left,
+            node: row.node,
+        },
         _ => unreachable(),
     }
 }
 
 // An entry for each row, in the order of the rows.
 fn listed(heap: Global, certificates: &Certificates) -> Result<Vec<Remaining>, AllocError>
-    ensures known { AllShowDays certificates.now }
-    ensures entries { IfOk result (λ v. v.items ≡ entries_of certificates.now) }
+    ensures { IfOk result (λ v. v.items ≡ entries_of certificates.now) }
 {
-    let rows = dated_rows(certificates);
-    let mut entries = Vec::with_capacity(heap, rows.len())?;
-    for row in rows {
-        entries.push(entry_of(certificates, row))?;
-    }
-    Ok(entries)
+    certificates
+        .rows()
+        .iter()
+        .map(|row| entry_of(certificates, row))
+        .collect(heap)
 }
 
+#[tactic(auto, using(crate::proofs::Order::in_order))]
 fn sorted(mut entries: Vec<Remaining>) -> Vec<Remaining>
     ensures shuffled { IsPermutation entries.items result.items }
     ensures ordered { InOrder result.items }
@@ -61,6 +47,7 @@ fn sorted(mut entries: Vec<Remaining>) -> Vec<Remaining>
 }
 
 // The days left of each node, by rising days left, then by node.
+#[tactic(auto, using(crate::proofs::Shown::all_shown))]
 pub fn remaining(heap: Global, certificates: &Certificates) -> Result<Vec<Remaining>, AllocError>
     ensures known { AllShowDays certificates.now }
     ensures entries { IfOk result (λ v. IsPermutation (entries_of certificates.now) v.items) }
@@ -80,23 +67,14 @@ pub fn verdict(days_left: i32, limit: u32) -> Verdict
     }
 }
 
-fn has_verdict(entry: &Remaining, limit: u32, wanted: Verdict) -> bool
-    ensures { result ≡ judged limit wanted entry.now }
-{
-    verdict(entry.days_left, limit) == wanted
-}
-
 // How many entries the verdict is given on.
 fn count_of(entries: &[Remaining], limit: u32, wanted: Verdict) -> usize
     ensures { result ≡ count_by (judged limit wanted) entries.now }
 {
-    let mut count = 0;
-    for entry in entries {
-        if has_verdict(entry, limit, wanted) {
-            count += 1;
-        }
-    }
-    count
+    entries
+        .iter()
+        .filter(|entry| verdict(entry.days_left, limit) == wanted)
+        .count()
 }
 
 pub fn counts(entries: &[Remaining], limit: u32) -> Counts

@@ -31,6 +31,14 @@ impl Verdict {
     }
 }
 
+impl fmt::Display for Verdict {
+    ghost output = { λ v. Some (mark_of v) };
+
+    fn fmt<W: fmt::Write>(&self, f: &mut fmt::Formatter<W>) -> fmt::Result {
+        f.write_str(self.mark())
+    }
+}
+
 // How many nodes there are, and how many of them are expired or to be renewed.
 #[derive(Clone, Copy)]
 pub struct Counts {
@@ -43,9 +51,10 @@ impl fmt::Display for Counts {
     ghost output = { λ c. Some (counts_text c) };
 
     fn fmt<W: fmt::Write>(&self, f: &mut fmt::Formatter<W>) -> fmt::Result {
-        let nodes = self.nodes;
-        let expired = self.expired;
-        let renew = self.renew;
-        write!(f, "nodes {nodes} expired {expired} renew {renew}")
+        write!(
+            f,
+            "nodes {} expired {} renew {}",
+            self.nodes, self.expired, self.renew
+        )
     }
 }

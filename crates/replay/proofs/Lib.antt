@@ -1,4 +1,3 @@
-mod Counted
 mod Quiet
 mod Scenes
 mod Replaying

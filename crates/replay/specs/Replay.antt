@@ -1,7 +1,6 @@
-use Rattle.std.specs.Prelude.{◌≡◌, ℕ, List, Ok, Err, vec_items, Result}
+use Rattle.std.specs.Prelude.{◌≡◌, ℕ, List, vec_items, Option}
 use Rattle.sources.specs.declared.source.Standing.{Standing}
 use Rattle.messages.specs.declared.response.Response.{Response}
-use Rattle.answers.specs.declared.fault.ServiceFault.{ServiceFault}
 use Rattle.model.specs.State.{State, new_state}
 use Rattle.laws.specs.Runs.{final, responses}
 use Rattle.laws.specs.Runs as run
@@ -12,8 +11,8 @@ use Rattle.replay.specs.declared.scene.Scene.{Scene}
 
 -- a call of the program as a call of a run
 abbrev pub call_of : Call → run.Call
-call_of (CreateSubscription ms k l m enabled) = run.CreateSubscription ms k l m enabled
-call_of (ModifySubscription id ms k l m) = run.ModifySubscription id ms k l m
+call_of (CreateSubscription p enabled) = run.CreateSubscription p enabled
+call_of (ModifySubscription id p) = run.ModifySubscription id p
 call_of (SetPublishingMode id enabled) = run.SetPublishingMode id enabled
 call_of (DeleteSubscription id room) = run.DeleteSubscription id room
 call_of (CreateItem id node mode p) = run.CreateItem id node mode p
@@ -25,13 +24,8 @@ call_of (Republish id n) = run.Republish id n
 call_of (Tick room) = run.Tick room
 
 -- a scene as one of a run, where `stands` tells what a source stands at
-abbrev pub scene_of : {S : Type 0} → (S → ℕ → Standing) → Scene S → run.Scene
+abbrev pub scene_of : {S : Type 0} → (S → ℕ → Option Standing) → Scene S → run.Scene
 scene_of stands c = record { stands = stands c.source; call = call_of c.call }
-
--- how many responses a call says that it wrote
-abbrev pub wrote : Result ℕ ServiceFault → ℕ
-wrote (Ok count) = count
-wrote (Err fault) = 0
 
 -- the scenes ran on a new engine: the state and the log are theirs, and the run is lawful
 pub record Replayed (first : ℕ) (scenes : List run.Scene) (state : State) (log : List Response) : Type 0 where

@@ -1,14 +1,12 @@
-ghost use Rattle.std.specs.Prelude.{◌≡◌, ◌≤◌, ◌++◌, map, length, take, IfOk, OnOk};
-ghost use Rattle.model.specs.Subscribing.{delete_subscription};
-ghost use Rattle.model.specs.Publish.{publish};
-ghost use Rattle.model.specs.Tick.{tick};
+ghost use Rattle.std.specs.Prelude.{◌≡◌, ◌++◌, map, length, IfOk, OnOk};
+ghost use Rattle.item_table.specs.Turn.{over};
 ghost use Rattle.laws.specs.Runs.{called};
 ghost use Rattle.engine.specs.State.{state_in};
-ghost use Rattle.replay.specs.Replay.{wrote, scene_of, Replayed};
+ghost use Rattle.replay.specs.Lists.{room_of, places_of};
+ghost use Rattle.replay.specs.Replay.{scene_of, Replayed};
 
 use crate::scene::{Call, Scene};
-use answers::acknowledgement::{Acknowledgement, AcknowledgementResult};
-use answers::fault::ServiceFault;
+use answers::acknowledgement::AcknowledgementResult;
 use engine::engine::Engine;
 use messages::message::Message;
 use messages::response::Response;
@@ -16,74 +14,88 @@ use sources::source::Source;
 use std::alloc::{AllocError, Global};
 use values::notification::Notification;
 
-// Appends the responses that a call wrote.
-fn append(
-    log: &mut Vec<Response>,
-    responses: &[Response],
-    answer: Result<usize, ServiceFault>,
-) -> Result<(), AllocError>
-    requires { wrote answer ≤ length responses.now }
-    ensures { OnOk result (log.new.items ≡ log.old.items ++ take (wrote answer) responses.now) }
-{
-    match answer {
-        Ok(count) => log.extend_from_slice(&responses[0..count]),
-        Err(_) => Ok(()),
-    }
-}
-
-fn delete(
+// Makes the call, and returns how many responses it wrote.
+fn perform<S: Source>(
     engine: &mut Engine,
-    id: u32,
+    scene: &Scene<S>,
     responses: &mut [Response],
-    log: &mut Vec<Response>,
-) -> Result<(), AllocError>
-    ensures after { OnOk result (state_in engine.new ≡ (delete_subscription (state_in engine.old) id (length responses.old)).state) }
-    ensures log { OnOk result (log.new.items ≡ log.old.items ++ (delete_subscription (state_in engine.old) id (length responses.old)).responses) }
-{
-    let answer = engine.delete_subscription(id, responses);
-    append(log, responses, answer)
-}
-
-fn publish(
-    engine: &mut Engine,
-    handle: u32,
-    acknowledgements: &[Acknowledgement],
     results: &mut [AcknowledgementResult],
-    responses: &mut [Response],
-    log: &mut Vec<Response>,
-) -> Result<(), AllocError>
-    ensures after { OnOk result (state_in engine.new ≡ (publish (state_in engine.old) handle acknowledgements.now (length responses.old) (length results.old)).state) }
-    ensures log { OnOk result (log.new.items ≡ log.old.items ++ (publish (state_in engine.old) handle acknowledgements.now (length responses.old) (length results.old)).responses) }
+) -> usize
+    requires room { length responses.old ≡ room_of scene.now.call }
+    requires places { length results.old ≡ places_of scene.now.call }
+    ensures after { state_in engine.new ≡ (called (state_in engine.old) (scene_of S.Source.stands scene.now)).state }
+    ensures value { result ≡ length (called (state_in engine.old) (scene_of S.Source.stands scene.now)).responses }
+    ensures responses { responses.new ≡ over (called (state_in engine.old) (scene_of S.Source.stands scene.now)).responses responses.old }
 {
-    let answer = engine.publish(handle, acknowledgements, results, responses);
-    append(log, responses, answer)
-}
-
-fn tick<S: Source>(
-    engine: &mut Engine,
-    source: &S,
-    responses: &mut [Response],
-    log: &mut Vec<Response>,
-) -> Result<(), AllocError>
-    ensures after { OnOk result (state_in engine.new ≡ (tick (S.Source.stands source.now) (state_in engine.old) (length responses.old)).state) }
-    ensures log { OnOk result (log.new.items ≡ log.old.items ++ (tick (S.Source.stands source.now) (state_in engine.old) (length responses.old)).responses) }
-{
-    let answer = engine.tick(source, responses);
-    append(log, responses, answer)
-}
-
-// A list for the responses of a call.
-fn blank_responses(room: usize, heap: Global) -> Result<Vec<Response>, AllocError>
-    ensures { IfOk result (λ v. length v.items ≡ room) }
-{
-    vec![in heap; Response::no_subscription(0); room]
-}
-
-// A list for the results of acknowledgements.
-fn blank_results(places: usize, heap: Global) -> Result<Vec<AcknowledgementResult>, AllocError>
-    ensures { IfOk result (λ v. length v.items ≡ places) }
-{
-    vec![in heap; AcknowledgementResult::Good; places]
+    match &scene.call {
+        Call::CreateSubscription {
+            parameters,
+            enabled,
+        } => {
+            let _ = engine.create_subscription(*parameters, *enabled);
+            0
+        }
+        Call::ModifySubscription { id, parameters } => {
+            let _ = engine.modify_subscription(*id, *parameters);
+            0
+        }
+        Call::SetPublishingMode { id, enabled } => {
+            let _ = engine.set_publishing_mode(*id, *enabled);
+            0
+        }
+        Call::DeleteSubscription { id, .. } => {
+            engine.delete_subscription(*id, responses).unwrap_or(0)
+        }
+        Call::CreateItem {
+            subscription,
+            node,
+            mode,
+            parameters,
+        } => {
+            let _ = engine.create_item(&scene.source, *subscription, *node, *mode, parameters);
+            0
+        }
+        Call::ModifyItem {
+            subscription,
+            item,
+            parameters,
+        } => {
+            let _ = engine.modify_item(*subscription, *item, parameters);
+            0
+        }
+        Call::DeleteItem { subscription, item } => {
+            let _ = engine.delete_item(*subscription, *item);
+            0
+        }
+        Call::SetMonitoringMode {
+            subscription,
+            item,
+            mode,
+        } => {
+            let _ = engine.set_monitoring_mode(*subscription, *item, *mode);
+            0
+        }
+        Call::Publish {
+            handle,
+            acknowledgements,
+            ..
+        } => engine
+            .publish(*handle, acknowledgements, results, responses)
+            .unwrap_or(0),
+        Call::Republish {
+            subscription,
+            number,
+        } => {
+            let mut message = Message {
+                number: 0,
+                count: 0,
+                notifications: [Notification::empty(); 16],
+            };
+            let _ = engine.republish(*subscription, *number, &mut message);
+            0
+        }
+        Call::Tick { .. } => engine.tick(&scene.source, responses).unwrap_or(0),
+    }
 }
 
 // One call, its responses appended to the log.
@@ -96,104 +108,10 @@ fn apply<S: Source>(
     ensures after { OnOk result (state_in engine.new ≡ (called (state_in engine.old) (scene_of S.Source.stands scene.now)).state) }
     ensures log { OnOk result (log.new.items ≡ log.old.items ++ (called (state_in engine.old) (scene_of S.Source.stands scene.now)).responses) }
 {
-    match &scene.call {
-        Call::CreateSubscription {
-            milliseconds,
-            keep_alive,
-            lifetime,
-            limit,
-            enabled,
-        } => {
-            let _ = engine.create_subscription(
-                *milliseconds,
-                *keep_alive,
-                *lifetime,
-                *limit,
-                *enabled,
-            );
-            Ok(())
-        }
-        Call::ModifySubscription {
-            id,
-            milliseconds,
-            keep_alive,
-            lifetime,
-            limit,
-        } => {
-            let _ = engine.modify_subscription(*id, *milliseconds, *keep_alive, *lifetime, *limit);
-            Ok(())
-        }
-        Call::SetPublishingMode { id, enabled } => {
-            let _ = engine.set_publishing_mode(*id, *enabled);
-            Ok(())
-        }
-        Call::DeleteSubscription { id, room } => {
-            let mut responses = blank_responses(*room, heap)?;
-            delete(engine, *id, &mut responses, log)
-        }
-        Call::CreateItem {
-            subscription,
-            node,
-            mode,
-            parameters,
-        } => {
-            let _ = engine.create_item(&scene.source, *subscription, *node, *mode, parameters);
-            Ok(())
-        }
-        Call::ModifyItem {
-            subscription,
-            item,
-            parameters,
-        } => {
-            let _ = engine.modify_item(*subscription, *item, parameters);
-            Ok(())
-        }
-        Call::DeleteItem { subscription, item } => {
-            let _ = engine.delete_item(*subscription, *item);
-            Ok(())
-        }
-        Call::SetMonitoringMode {
-            subscription,
-            item,
-            mode,
-        } => {
-            let _ = engine.set_monitoring_mode(*subscription, *item, *mode);
-            Ok(())
-        }
-        Call::Publish {
-            handle,
-            acknowledgements,
-            room,
-            places,
-        } => {
-            let mut responses = blank_responses(*room, heap)?;
-            let mut results = blank_results(*places, heap)?;
-            publish(
-                engine,
-                *handle,
-                acknowledgements,
-                &mut results,
-                &mut responses,
-                log,
-            )
-        }
-        Call::Republish {
-            subscription,
-            number,
-        } => {
-            let mut message = Message {
-                number: 0,
-                count: 0,
-                notifications: [Notification::empty(); 16],
-            };
-            let _ = engine.republish(*subscription, *number, &mut message);
-            Ok(())
-        }
-        Call::Tick { room } => {
-            let mut responses = blank_responses(*room, heap)?;
-            tick(engine, &scene.source, &mut responses, log)
-        }
-    }
+    let mut responses = vec![in heap; Response::no_subscription(0); scene.call.room()]?;
+    let mut results = vec![in heap; AcknowledgementResult::Good; scene.call.places()]?;
+    let count = perform(engine, scene, &mut responses, &mut results);
+    log.extend_from_slice(&responses[..count])
 }
 
 // Runs the scenes on a new engine, and answers it with all responses in order.

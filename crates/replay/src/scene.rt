@@ -1,22 +1,20 @@
+ghost use Rattle.std.specs.Prelude.{◌≡◌};
+ghost use Rattle.replay.specs.Lists.{room_of, places_of};
+
 use answers::acknowledgement::Acknowledgement;
 use model::parameters::MonitoringParameters;
+use subscriptions::parameters::SubscriptionParameters;
 
 // A call with its arguments. `room` is how many places its list of responses has, and `places` its list of results.
 #[derive(Drop)]
 pub enum Call {
     CreateSubscription {
-        milliseconds: i32,
-        keep_alive: u32,
-        lifetime: u32,
-        limit: u32,
+        parameters: SubscriptionParameters,
         enabled: bool,
     },
     ModifySubscription {
         id: u32,
-        milliseconds: i32,
-        keep_alive: u32,
-        lifetime: u32,
-        limit: u32,
+        parameters: SubscriptionParameters,
     },
     SetPublishingMode {
         id: u32,
@@ -59,6 +57,30 @@ pub enum Call {
     Tick {
         room: usize,
     },
+}
+
+impl Call {
+    // How many places its list of responses has: none where it writes no responses.
+    pub(crate) fn room(&self) -> usize
+        ensures { result ≡ room_of self.now }
+    {
+        match self {
+            Call::DeleteSubscription { room, .. }
+            | Call::Publish { room, .. }
+            | Call::Tick { room } => *room,
+            _ => 0,
+        }
+    }
+
+    // The same for its list of results.
+    pub(crate) fn places(&self) -> usize
+        ensures { result ≡ places_of self.now }
+    {
+        match self {
+            Call::Publish { places, .. } => *places,
+            _ => 0,
+        }
+    }
 }
 
 // A call, and the source as it is when the call is made.

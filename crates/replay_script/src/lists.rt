@@ -7,6 +7,7 @@ pub(crate) fn response_list(heap: Global, room: u32) -> Result<Vec<Response>, Al
     vec![in heap; Response::no_subscription(0); room as usize]
 }
 
+// Not one generic with the other: a line each, and the blank differs with the type.
 pub(crate) fn result_list(
     heap: Global,
     places: usize,

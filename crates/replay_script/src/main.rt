@@ -6,16 +6,18 @@ mod output;
 mod session;
 
 use crate::session::Session;
+use scripts::error::ParseError;
 use scripts::parse::{other_double, parse};
 use std::io;
 use std::io::{BufRead, BufReader};
 
 // One line of the script: its command is run, or what was expected is printed.
 fn run_line(rt: &HostRuntime, session: &mut Session, number: usize, line: &[u8]) -> io::Result<()> {
-    match parse(line, other_double(line), rt.alloc())? {
+    match parse(line, other_double(line), rt.alloc()) {
         Ok(Some(command)) => session.run(rt, &command),
         Ok(None) => Ok(()),
-        Err(expected) => println!(rt; "error {number}: expected {expected}"),
+        Err(ParseError::Expected(expected)) => println!(rt; "error {number}: expected {expected}"),
+        Err(ParseError::Memory(error)) => Err(io::Error::from(error)),
     }
 }
 

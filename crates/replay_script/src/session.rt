@@ -1,20 +1,21 @@
 // The engine and the sources that a script works on.
 use crate::lists::{response_list, result_list};
 use crate::output::{
-    print_message, print_numbers, print_refusal, print_responses, print_unit, print_waiting,
+    Numbers, print_message, print_refusal, print_responses, print_unit, print_waiting,
 };
 use answers::acknowledgement::Acknowledgement;
 use answers::fault::ServiceFault;
 use engine::engine::Engine;
 use messages::message::Message;
+use messages::response::Response;
 use model::parameters::MonitoringParameters;
+use model::revised::{CreatedItem, CreatedSubscription, RevisedItem};
 use scripts::command::Command;
 use sources::certificates::Certificates;
-use sources::fault::SourceFault;
 use sources::image::ProcessImage;
 use sources::joined::Joined;
 use std::io;
-use values::notification::Notification;
+use subscriptions::parameters::{RevisedSubscription, SubscriptionParameters};
 
 // The process image below the split, the certificates from it on. `results` is the length of the result list where it is not
 // that of the acknowledgements.
@@ -24,12 +25,6 @@ pub(crate) struct Session {
     plant: Joined<ProcessImage, Certificates>,
     room: u32,
     results: Option<u32>,
-}
-
-// A source's answer, as the calls answer.
-fn source_answer(answer: Result<(), SourceFault>) -> Result<(), ServiceFault> {
-    answer?;
-    Ok(())
 }
 
 // Says that there is no memory for a list of this length.
@@ -51,20 +46,31 @@ impl Session {
         }
     }
 
-    fn tick(&mut self, rt: &HostRuntime) -> io::Result<()> {
+    // Makes a call that writes responses, and prints them.
+    fn respond<F: FnOnce(&mut Session, &mut [Response]) -> Result<usize, ServiceFault>>(
+        &mut self,
+        rt: &HostRuntime,
+        call: F,
+    ) -> io::Result<()>
+        requires { F.IsAlwaysCallable call }
+    {
         let Ok(mut responses) = response_list(rt.alloc(), self.room) else {
             return print_no_memory(rt, self.room as usize);
         };
-        let answer = self.engine.tick(&self.plant, &mut responses);
+        let answer = call(self, &mut responses);
         print_responses(rt, answer, &[], responses.as_slice())
     }
 
+    fn tick(&mut self, rt: &HostRuntime) -> io::Result<()> {
+        self.respond(rt, |session, responses| {
+            session.engine.tick(&session.plant, responses)
+        })
+    }
+
     fn delete_subscription(&mut self, rt: &HostRuntime, id: u32) -> io::Result<()> {
-        let Ok(mut responses) = response_list(rt.alloc(), self.room) else {
-            return print_no_memory(rt, self.room as usize);
-        };
-        let answer = self.engine.delete_subscription(id, &mut responses);
-        print_responses(rt, answer, &[], responses.as_slice())
+        self.respond(rt, |session, responses| {
+            session.engine.delete_subscription(id, responses)
+        })
     }
 
     fn publish(
@@ -73,10 +79,9 @@ impl Session {
         handle: u32,
         acknowledgements: &[Acknowledgement],
     ) -> io::Result<()> {
-        let places = match self.results {
-            Some(places) => places as usize,
-            None => acknowledgements.len(),
-        };
+        let places = self
+            .results
+            .map_or(acknowledgements.len(), |places| places as usize);
         let Ok(mut responses) = response_list(rt.alloc(), self.room) else {
             return print_no_memory(rt, self.room as usize);
         };
@@ -90,44 +95,38 @@ impl Session {
         print_responses(
             rt,
             answer,
-            &results.as_slice()[0..written],
+            &results.as_slice()[..written],
             responses.as_slice(),
         )
     }
 
     fn republish(&mut self, rt: &HostRuntime, subscription: u32, number: u32) -> io::Result<()> {
-        let mut message = Message {
-            number: 0,
-            count: 0,
-            notifications: [Notification::empty(); 16],
-        };
+        let mut message = Message::default();
         match self.engine.republish(subscription, number, &mut message) {
             Ok(()) => print_message(rt, &message),
-            Err(fault) => print_refusal(rt, &fault),
+            Err(fault) => print_refusal(rt, fault),
         }
     }
 
     fn print_queued(&self, rt: &HostRuntime) -> io::Result<()> {
-        print!(rt; "queued ")?;
-        print_numbers(rt, self.engine.queued_handles())?;
-        println!(rt)
+        let handles = Numbers(self.engine.queued_handles());
+        println!(rt; "queued {handles}")
     }
 
     fn print_kept(&self, rt: &HostRuntime, subscription: u32) -> io::Result<()> {
         match self.engine.kept_numbers(subscription) {
             Ok(numbers) => {
-                print!(rt; "kept ")?;
-                print_numbers(rt, numbers.as_slice())?;
-                println!(rt)
+                let numbers = Numbers(numbers.as_slice());
+                println!(rt; "kept {numbers}")
             }
-            Err(fault) => print_refusal(rt, &fault),
+            Err(fault) => print_refusal(rt, fault),
         }
     }
 
     fn print_waiting(&self, rt: &HostRuntime, subscription: u32, item: u32) -> io::Result<()> {
         let queue = match self.engine.waiting_samples(subscription, item) {
             Ok(queue) => queue,
-            Err(fault) => return print_refusal(rt, &fault),
+            Err(fault) => return print_refusal(rt, fault),
         };
         let waiting = queue.as_slice();
         let count = waiting.len();
@@ -144,20 +143,19 @@ impl Session {
     fn create_subscription(
         &mut self,
         rt: &HostRuntime,
-        milliseconds: i32,
-        keep_alive: u32,
-        lifetime: u32,
-        limit: u32,
+        parameters: SubscriptionParameters,
         enabled: bool,
     ) -> io::Result<()> {
-        let answer = self
-            .engine
-            .create_subscription(milliseconds, keep_alive, lifetime, limit, enabled);
-        match answer {
-            Ok((id, interval, keep_alive, lifetime)) => {
+        match self.engine.create_subscription(parameters, enabled) {
+            Ok(CreatedSubscription { id, revised }) => {
+                let RevisedSubscription {
+                    interval,
+                    keep_alive,
+                    lifetime,
+                } = revised;
                 println!(rt; "ok {id} {interval} {keep_alive} {lifetime}")
             }
-            Err(fault) => print_refusal(rt, &fault),
+            Err(fault) => print_refusal(rt, fault),
         }
     }
 
@@ -165,19 +163,17 @@ impl Session {
         &mut self,
         rt: &HostRuntime,
         id: u32,
-        milliseconds: i32,
-        keep_alive: u32,
-        lifetime: u32,
-        limit: u32,
+        parameters: SubscriptionParameters,
     ) -> io::Result<()> {
-        let answer = self
-            .engine
-            .modify_subscription(id, milliseconds, keep_alive, lifetime, limit);
-        match answer {
-            Ok((interval, keep_alive, lifetime)) => {
-                println!(rt; "ok {interval} {keep_alive} {lifetime}")
-            }
-            Err(fault) => print_refusal(rt, &fault),
+        match self.engine.modify_subscription(id, parameters) {
+            Ok(
+                RevisedSubscription {
+                    interval,
+                    keep_alive,
+                    lifetime,
+                },
+            ) => println!(rt; "ok {interval} {keep_alive} {lifetime}"),
+            Err(fault) => print_refusal(rt, fault),
         }
     }
 
@@ -193,8 +189,14 @@ impl Session {
             .engine
             .create_item(&self.plant, subscription, node, mode, parameters);
         match answer {
-            Ok((id, interval, size)) => println!(rt; "ok {id} {interval} {size}"),
-            Err(fault) => print_refusal(rt, &fault),
+            Ok(CreatedItem { id, revised }) => {
+                let RevisedItem {
+                    interval,
+                    queue_size,
+                } = revised;
+                println!(rt; "ok {id} {interval} {queue_size}")
+            }
+            Err(fault) => print_refusal(rt, fault),
         }
     }
 
@@ -206,8 +208,13 @@ impl Session {
         parameters: &MonitoringParameters,
     ) -> io::Result<()> {
         match self.engine.modify_item(subscription, item, parameters) {
-            Ok((interval, size)) => println!(rt; "ok {interval} {size}"),
-            Err(fault) => print_refusal(rt, &fault),
+            Ok(
+                RevisedItem {
+                    interval,
+                    queue_size,
+                },
+            ) => println!(rt; "ok {interval} {queue_size}"),
+            Err(fault) => print_refusal(rt, fault),
         }
     }
 
@@ -220,100 +227,87 @@ impl Session {
 
     // Runs a command and prints its answer.
     pub(crate) fn run(&mut self, rt: &HostRuntime, command: &Command) -> io::Result<()> {
-        match command {
+        let answer = match command {
             Command::New(first_id) => {
                 self.engine = Engine::new(*first_id);
-                println!(rt; "ok")
+                Ok(())
             }
             Command::Split(split) => {
                 self.plant.split = *split;
-                println!(rt; "ok")
+                Ok(())
             }
             Command::Room(room) => {
                 self.room = *room;
-                println!(rt; "ok")
+                Ok(())
             }
             Command::Results(places) => {
                 self.results = Some(*places);
-                println!(rt; "ok")
+                Ok(())
             }
             Command::ResultsMatch => {
                 self.results = None;
-                println!(rt; "ok")
+                Ok(())
             }
-            Command::Write { node, code, sample } => {
-                let answer = self.plant.first.write(*node, *code, *sample);
-                print_unit(rt, source_answer(answer))
-            }
-            Command::Certificate { node, day } => {
-                let answer = self.plant.second.enter(*node, *day);
-                print_unit(rt, source_answer(answer))
-            }
-            Command::Today(day) => {
-                let answer = self.plant.second.set_today(*day);
-                print_unit(rt, source_answer(answer))
-            }
-            Command::CreateSubscription {
-                milliseconds,
-                keep_alive,
-                lifetime,
-                limit,
-                enabled,
-            } => self.create_subscription(
-                rt,
-                *milliseconds,
-                *keep_alive,
-                *lifetime,
-                *limit,
-                *enabled,
-            ),
-            Command::ModifySubscription {
-                id,
-                milliseconds,
-                keep_alive,
-                lifetime,
-                limit,
-            } => self.modify_subscription(rt, *id, *milliseconds, *keep_alive, *lifetime, *limit),
-            Command::DeleteSubscription(id) => self.delete_subscription(rt, *id),
+            Command::Write { node, code, sample } => self
+                .plant
+                .first
+                .write(*node, *code, *sample)
+                .map_err(ServiceFault::from),
+            Command::Certificate { node, day } => self
+                .plant
+                .second
+                .enter(*node, *day)
+                .map_err(ServiceFault::from),
+            Command::Today(day) => self
+                .plant
+                .second
+                .set_today(*day)
+                .map_err(ServiceFault::from),
             Command::SetPublishing { id, enabled } => {
-                print_unit(rt, self.engine.set_publishing_mode(*id, *enabled))
+                self.engine.set_publishing_mode(*id, *enabled)
             }
-            Command::CreateItem {
-                subscription,
-                node,
-                mode,
-                parameters,
-            } => self.create_item(rt, *subscription, *node, *mode, parameters),
-            Command::ModifyItem {
-                subscription,
-                item,
-                parameters,
-            } => self.modify_item(rt, *subscription, *item, parameters),
             Command::DeleteItem { subscription, item } => {
-                print_unit(rt, self.engine.delete_item(*subscription, *item))
+                self.engine.delete_item(*subscription, *item)
             }
             Command::SetMode {
                 subscription,
                 item,
                 mode,
-            } => print_unit(
-                rt,
-                self.engine.set_monitoring_mode(*subscription, *item, *mode),
-            ),
+            } => self.engine.set_monitoring_mode(*subscription, *item, *mode),
+            Command::CreateSubscription {
+                parameters,
+                enabled,
+            } => return self.create_subscription(rt, *parameters, *enabled),
+            Command::ModifySubscription { id, parameters } => {
+                return self.modify_subscription(rt, *id, *parameters);
+            }
+            Command::DeleteSubscription(id) => return self.delete_subscription(rt, *id),
+            Command::CreateItem {
+                subscription,
+                node,
+                mode,
+                parameters,
+            } => return self.create_item(rt, *subscription, *node, *mode, parameters),
+            Command::ModifyItem {
+                subscription,
+                item,
+                parameters,
+            } => return self.modify_item(rt, *subscription, *item, parameters),
             Command::Publish {
                 handle,
                 acknowledgements,
-            } => self.publish(rt, *handle, acknowledgements.as_slice()),
+            } => return self.publish(rt, *handle, acknowledgements.as_slice()),
             Command::Republish {
                 subscription,
                 number,
-            } => self.republish(rt, *subscription, *number),
-            Command::Tick(count) => self.ticks(rt, *count),
-            Command::Queued => self.print_queued(rt),
-            Command::Kept(subscription) => self.print_kept(rt, *subscription),
+            } => return self.republish(rt, *subscription, *number),
+            Command::Tick(count) => return self.ticks(rt, *count),
+            Command::Queued => return self.print_queued(rt),
+            Command::Kept(subscription) => return self.print_kept(rt, *subscription),
             Command::Waiting { subscription, item } => {
-                self.print_waiting(rt, *subscription, *item)
+                return self.print_waiting(rt, *subscription, *item);
             }
-        }
+        };
+        print_unit(rt, answer)
     }
 }

@@ -33,5 +33,11 @@ pub fn publish(
         return Err(ServiceFault::TooManyOperations);
     }
     acknowledge_all(state, acknowledgements, results);
-    Ok(take_request(state, handle, responses))
+    match take_request(state, handle) {
+        Some(response) => {
+            responses[0] = response;
+            Ok(1)
+        }
+        None => Ok(0),
+    }
 }

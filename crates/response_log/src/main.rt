@@ -11,6 +11,7 @@ use replay::scene::{Call, Scene};
 use sources::image::ProcessImage;
 use std::alloc::{AllocError, Global};
 use std::io;
+use subscriptions::parameters::SubscriptionParameters;
 use values::check::RequestedFilter;
 use values::value::{Sample, Value};
 
@@ -31,10 +32,12 @@ fn plant() -> Result<ProcessImage, ServiceFault> {
 // A subscription of one tick with a notification in each message.
 fn create_subscription() -> Call {
     Call::CreateSubscription {
-        milliseconds: 50,
-        keep_alive: 2,
-        lifetime: 6,
-        limit: 1,
+        parameters: SubscriptionParameters {
+            milliseconds: 50,
+            keep_alive: 2,
+            lifetime: 6,
+            limit: 1,
+        },
         enabled: true,
     }
 }
@@ -102,7 +105,7 @@ fn show(rt: &HostRuntime, response: &Response) -> io::Result<()> {
     let handle = response.handle;
     let subscription = response.subscription;
     let number = response.number;
-    let more = response.more as u8;
+    let more = u8::from(response.more);
     let notifications = response.count;
     println!(rt; "{kind} {handle} {subscription} {number} {more} {notifications}")
 }
@@ -118,8 +121,6 @@ fn run(rt: &HostRuntime, image: ProcessImage) -> anyhow::Result<()> {
 }
 
 fn main(rt: HostRuntime) -> anyhow::Result<()> {
-    let Ok(image) = plant() else {
-        return Err(anyhow!("a write was refused"));
-    };
+    let image = plant().map_err(|_| anyhow!("a write was refused"))?;
     run(&rt, image)
 }

@@ -1,5 +1,6 @@
 -- The messages kept for retransmission.
-use Rattle.std.specs.Prelude.{ℕ, cond, List, [], ◌∷◌, ◌++◌, length, take, is_some, ◌==◌}
+use Rattle.std.specs.Prelude.{ℕ, cond, List, [], ◌∷◌, ◌++◌, length, is_some, ◌==◌}
+use Rattle.fifo.specs.Bounded.{items}
 use Rattle.fifo.specs.Lists.{rest, lookup, without}
 use Rattle.messages.specs.declared.message.Message.{Message}
 use Rattle.retransmission.specs.declared.kept.RetransmissionQueue.{RetransmissionQueue}
@@ -7,7 +8,7 @@ use Rattle.messages.specs.Messages.{number_of}
 
 -- the kept messages of one subscription, oldest first
 abbrev pub kept_in : RetransmissionQueue → List Message
-kept_in q = take q.len q.slots
+kept_in q = items q.messages
 
 -- an earlier message of the number goes, or else the oldest of eight
 abbrev pub room_for : ℕ → List Message → List Message

@@ -1,5 +1,6 @@
 -- The kept messages of every subscription, a row for each.
-use Rattle.std.specs.Prelude.{ℕ, cond, List, [], ◌∷◌, ◌++◌, map, length, take, Some, None, Option, nat_lt}
+use Rattle.std.specs.Prelude.{ℕ, cond, List, [], ◌∷◌, ◌++◌, map, length, Some, None, Option, nat_lt}
+use Rattle.fifo.specs.Bounded.{items}
 use Rattle.fifo.specs.Lists.{lookup, replaced, without}
 use Rattle.messages.specs.declared.message.Message.{Message}
 use Rattle.retransmission.specs.declared.kept.Retransmission.{Retransmission}
@@ -23,7 +24,7 @@ subscription_of row = row.subscription
 
 -- the rows in use, in the order of opening
 abbrev pub rows : RetransmissionTable → List Kept
-rows t = map shown (take t.len t.places)
+rows t = map shown (items t.rows)
 
 abbrev pub messages_of : Option Kept → List Message
 messages_of None = []

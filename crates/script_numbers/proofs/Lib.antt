@@ -1,2 +1,4 @@
 mod Written
 mod Quotients
+mod Folds
+mod Constants

@@ -1,5 +1,6 @@
 -- The number in a word.
 use Rattle.std.specs.Prelude.{◌≡◌, ℕ, ◌+◌, ◌-◌, ◌*◌, ◌<◌, cond, ◌&&◌, List, [], ◌∷◌, length, ℤ, pos, neg_ℤ, Some, None, decimal, fold, Option, ◌==◌, nat_le, nat_lt}
+use Rattle.std.specs.Option.{option_map}
 use Rattle.script_words.specs.Texts.{rest_after}
 
 -- the value of a digit: 0 to 9, and a to f in either case
@@ -53,6 +54,14 @@ by_sign limit (Some digits) word = negative limit (numeral_of 10 digits)
 -- a number below the limit in decimal, or a minus and a number up to the limit
 unfoldable pub signed_of : ℕ → List ℕ → Option ℤ
 signed_of limit word = by_sign limit (rest_after (45 ∷ []) word) word
+
+abbrev pub with_sign : Option (List ℕ) → List ℕ → Option ℤ
+with_sign None word = option_map pos (numeral_of 10 word)
+with_sign (Some digits) word = option_map (λ n. neg_ℤ (pos n)) (numeral_of 10 digits)
+
+-- a number in decimal, or a minus and a number
+unfoldable pub integer_of : List ℕ → Option ℤ
+integer_of word = with_sign (rest_after (45 ∷ []) word) word
 
 -- a number written in decimal is read back as it is
 abbrev pub ReadsBack : List ℕ → Option ℕ → Type 0

@@ -1,6 +1,6 @@
-ghost use Rattle.std.specs.Prelude.{◌≡◌, fold};
+ghost use Rattle.std.specs.Prelude.{◌≡◌, Some, fold};
 ghost use Rattle.script_numbers.specs.declared.double.Reading.TheVariants.{Start};
-ghost use Rattle.script_numbers.specs.Doubles.{more, whole_of, fraction_of, ratio_of, on_digit, on_point, step, value_of, magnitude_of, negated, exact_of, double_of};
+ghost use Rattle.script_numbers.specs.Doubles.{more, ratio_of, on_digit, on_point, on_byte, step, value_in, magnitude_of, exact_of, double_of};
 
 use script_words::text::{after, is_text};
 use std::num::nearest_u64_to_f64;
@@ -12,34 +12,12 @@ enum Reading {
     Whole(u64),
     Point,
     Fraction(u64, u32),
-    Unreadable,
 }
 
 fn more(number: u64, digit: u64) -> Option<u64>
     ensures { result ≡ more number digit }
 {
     number.checked_mul(10)?.checked_add(digit)
-}
-
-fn whole(number: Option<u64>) -> Reading
-    ensures { result ≡ whole_of number }
-{
-    match number {
-        Some(number) => Reading::Whole(number),
-        None => Reading::Unreadable,
-    }
-}
-
-fn fraction(number: Option<u64>, decimals: u32) -> Reading
-    ensures { result ≡ fraction_of number decimals }
-{
-    let Some(number) = number else {
-        return Reading::Unreadable;
-    };
-    match decimals.checked_add(1) {
-        Some(decimals) => Reading::Fraction(number, decimals),
-        None => Reading::Unreadable,
-    }
 }
 
 // The Double nearest to number / 10^decimals. Both are Doubles exactly, so only the quotient
@@ -58,78 +36,74 @@ fn ratio(number: u64, decimals: u32) -> Option<f64>
 }
 
 impl Reading {
-    fn digit(self, digit: u8) -> Reading
+    fn digit(self, digit: u8) -> Option<Reading>
         ensures { result ≡ on_digit self digit }
     {
         let digit = u64::from(digit);
         match self {
-            Reading::Start => Reading::Whole(digit),
-            Reading::Whole(number) => whole(more(number, digit)),
-            Reading::Point => Reading::Fraction(digit, 1),
-            Reading::Fraction(number, decimals) => fraction(more(number, digit), decimals),
-            Reading::Unreadable => Reading::Unreadable,
+            Reading::Start => Some(Reading::Whole(digit)),
+            Reading::Whole(number) => Some(Reading::Whole(more(number, digit)?)),
+            Reading::Point => Some(Reading::Fraction(digit, 1)),
+            Reading::Fraction(number, decimals) => Some(Reading::Fraction(
+                more(number, digit)?,
+                decimals.checked_add(1)?,
+            )),
         }
     }
 
-    fn point(self) -> Reading
+    fn point(self) -> Option<Reading>
         ensures { result ≡ on_point self }
     {
         match self {
-            Reading::Start => Reading::Point,
-            Reading::Whole(number) => Reading::Fraction(number, 0),
-            _ => Reading::Unreadable,
+            Reading::Start => Some(Reading::Point),
+            Reading::Whole(number) => Some(Reading::Fraction(number, 0)),
+            Reading::Point | Reading::Fraction(..) => None,
         }
     }
 
-    fn next(self, byte: u8) -> Reading
-        ensures { result ≡ step self byte }
+    fn next(self, byte: u8) -> Option<Reading>
+        ensures { result ≡ on_byte self byte }
     {
         match byte {
             b'0'..=b'9' => self.digit(byte - b'0'),
             b'.' => self.point(),
-            _ => Reading::Unreadable,
+            _ => None,
         }
     }
 
     fn value(self) -> Option<f64>
-        ensures { result ≡ value_of self }
+        ensures { result ≡ value_in self }
     {
         match self {
             Reading::Whole(number) => ratio(number, 0),
             Reading::Fraction(number, decimals) => ratio(number, decimals),
-            _ => None,
+            Reading::Start | Reading::Point => None,
         }
     }
 }
 
 // The reading behind the last byte.
-fn scanned(digits: &[u8]) -> Reading
-    ensures { result ≡ fold step Start digits.now }
+fn scanned(digits: &[u8]) -> Option<Reading>
+    ensures { result ≡ fold step (Some Start) digits.now }
 {
-    let mut reading = Reading::Start;
-    for byte in digits {
-        reading = reading.next(*byte);
-    }
-    reading
+    digits
+        .iter()
+        .try_fold(Reading::Start, |reading, byte| reading.next(*byte))
 }
 
 fn magnitude(digits: &[u8]) -> Option<f64>
     ensures { result ≡ magnitude_of digits.now }
 {
-    scanned(digits).value()
-}
-
-fn opposite(x: Option<f64>) -> Option<f64>
-    ensures { result ≡ negated x }
-{
-    Some(-x?)
+    scanned(digits)?.value()
 }
 
 // The Double nearest to a decimal number, with or without a minus and a point, or nan, inf or -inf.
 // The digits make a number up to 2^53, with at most 15 of them behind the point.
+#[tactic(auto, using(crate::proofs::Constants::nan_is, crate::proofs::Constants::inf_is, crate::proofs::Constants::minus_inf_is), unfolding(crate::specs::Doubles::exact_of))]
 fn exact(word: &[u8]) -> Option<f64>
     ensures { result ≡ exact_of word.now }
 {
+    // A match on byte strings is proved byte by byte, with a case for each place where a word can differ.
     if is_text(word, b"nan") {
         return Some(f64::NAN);
     }
@@ -140,7 +114,7 @@ fn exact(word: &[u8]) -> Option<f64>
         return Some(f64::NEG_INFINITY);
     }
     match after(word, b"-") {
-        Some(digits) => opposite(magnitude(digits)),
+        Some(digits) => magnitude(digits).map(|x| -x),
         None => magnitude(word),
     }
 }
@@ -150,8 +124,5 @@ fn exact(word: &[u8]) -> Option<f64>
 pub fn double(word: &[u8], other: Option<f64>) -> Option<f64>
     ensures { result ≡ double_of word.now other }
 {
-    match exact(word) {
-        Some(x) => Some(x),
-        None => other,
-    }
+    exact(word).or(other)
 }

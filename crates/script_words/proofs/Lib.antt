@@ -1,2 +1,3 @@
 mod Rests
 mod Splits
+mod Returns

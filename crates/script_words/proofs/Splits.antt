@@ -1,55 +1,54 @@
 -- A line, word by word.
-use Rattle.std.proofs.Common.{◌≡◌, ℕ, suc, ◌+◌, Bool, true, false, cond, not, eqb, List, [], ◌∷◌, ◌++◌, length, get_or, take, drop, sym, refl, ap, ◌∙◌, append_assoc, append-nil, arith}
-use Rattle.std.proofs.lemmas.List.{drop-drop}
-use Rattle.std.proofs.lemmas.Bool.{eqb-true}
-use Rattle.script_words.specs.Words.{is_blank, is_visible, place, without_return, ended, words_from, words_in, following}
+use Rattle.std.proofs.Common.{◌≡◌, ℕ, ◌+◌, ◌<◌, Bool, true, false, cond, not, List, [], ◌∷◌, ◌++◌, length, get_or, take, drop, sym, refl, ap, ◌∙◌, append_assoc, append-nil, add-zero, arith}
+use Rattle.std.specs.List.{prefix_len, take_while}
+use Rattle.std.proofs.lemmas.List.{length-drop, get_or-drop}
+use Rattle.std.proofs.lemmas.List.Sums.{prefix_len_stops}
+use Rattle.std.proofs.lemmas.Grind.{common_steps}
+use Rattle.script_words.specs.Words.{is_blank, ended, words_from, words_in}
 
-pub empty_line : (line : List ℕ) → eqb (length line) 0 ≡ true → line ≡ without_return line
-empty_line [] e = refl
-empty_line (b ∷ bs) e = absurd (omega (arith, eqb-true (length (b ∷ bs)) 0 e))
+abbrev pub is_visible : ℕ → Bool
+is_visible b = not (is_blank b)
+
+drop_after : (n x : ℕ) (xs : List ℕ) → drop (1 + n) (x ∷ xs) ≡ drop n xs
+drop_after n x xs = grind (arith, common_steps)
+
+take_after : (n x : ℕ) (xs : List ℕ) → take (1 + n) (x ∷ xs) ≡ x ∷ take n xs
+take_after n x xs = grind (arith, common_steps)
+
+pub skips_blanks : (bs : List ℕ) → words_in bs ≡ words_in (drop (prefix_len is_blank bs) bs)
+skips_blanks [] = refl
+skips_blanks (b ∷ bs) = at (is_blank b) refl (skips_blanks bs) where
+  at : (t : Bool) → is_blank b ≡ t → words_in bs ≡ words_in (drop (prefix_len is_blank bs) bs)
+      → cond t (words_in bs) (words_from (b ∷ []) bs) ≡ words_in (drop (cond t (1 + prefix_len is_blank bs) 0) (b ∷ bs))
+  at true e ih = ih ∙ sym (ap words_in (drop_after (prefix_len is_blank bs) b bs))
+  at false e ih = sym (ap (λ t. cond t (words_in bs) (words_from (b ∷ []) bs)) e)
 
 -- a word that was begun goes on to the next blank
-goes_on : (begun bs : List ℕ) → words_from begun bs ≡ ended (begun ++ take (place is_blank bs) bs) (words_in (drop (place is_blank bs) bs))
+goes_on : (begun bs : List ℕ) → words_from begun bs ≡ ended (begun ++ take_while is_visible bs) (words_in (drop (prefix_len is_visible bs) bs))
 goes_on begun [] = ap (λ w. ended w []) (sym (append-nil begun))
 goes_on begun (b ∷ bs) = at (is_blank b) refl (goes_on (begun ++ b ∷ []) bs) where
   at : (t : Bool) → is_blank b ≡ t
-      → words_from (begun ++ b ∷ []) bs ≡ ended ((begun ++ b ∷ []) ++ take (place is_blank bs) bs) (words_in (drop (place is_blank bs) bs))
-      → cond t (ended begun (words_from [] bs)) (words_from (begun ++ b ∷ []) bs) ≡ ended (begun ++ take (cond t 0 (suc (place is_blank bs))) (b ∷ bs)) (words_in (drop (cond t 0 (suc (place is_blank bs))) (b ∷ bs)))
+      → words_from (begun ++ b ∷ []) bs ≡ ended ((begun ++ b ∷ []) ++ take_while is_visible bs) (words_in (drop (prefix_len is_visible bs) bs))
+      → cond t (ended begun (words_from [] bs)) (words_from (begun ++ b ∷ []) bs) ≡ ended (begun ++ take (cond (not t) (1 + prefix_len is_visible bs) 0) (b ∷ bs)) (words_in (drop (cond (not t) (1 + prefix_len is_visible bs) 0) (b ∷ bs)))
   at true e ih = ap (λ w. ended w (words_from [] bs)) (sym (append-nil begun)) ∙ sym (ap (λ t. ended (begun ++ []) (cond t (words_from [] bs) (words_from (b ∷ []) bs))) e)
-  at false e ih = ih ∙ ap (λ w. ended w (words_in (drop (place is_blank bs) bs))) (append_assoc begun (b ∷ []) (take (place is_blank bs) bs))
+  at false e ih =
+      ih
+      ∙ ap (λ w. ended w (words_in (drop (prefix_len is_visible bs) bs))) (append_assoc begun (b ∷ []) (take_while is_visible bs) ∙ sym (ap (λ w. begun ++ w) (take_after (prefix_len is_visible bs) b bs)))
+      ∙ sym (ap (λ r. ended (begun ++ take (1 + prefix_len is_visible bs) (b ∷ bs)) (words_in r)) (drop_after (prefix_len is_visible bs) b bs))
 
-abbrev split : List ℕ → List (List ℕ)
-split [] = []
-split (b ∷ bs) = take (place is_blank (b ∷ bs)) (b ∷ bs) ∷ words_in (drop (place is_blank (b ∷ bs)) (b ∷ bs))
+-- the first word, and the words behind it
+pub first_is : (bs : List ℕ) (start n : ℕ) → prefix_len is_blank bs ≡ start → prefix_len is_visible (drop start bs) ≡ n → words_in bs ≡ ended (take n (drop start bs)) (words_in (drop n (drop start bs)))
+first_is bs start n p q = skips_blanks bs ∙ ap (λ i. words_in (drop i bs)) p ∙ goes_on [] (drop start bs) ∙ ap (λ i. ended (take i (drop start bs)) (words_in (drop i (drop start bs)))) q
 
--- blanks, and then the first word and the others
-pub splits : (bs : List ℕ) → words_in bs ≡ split (drop (place is_visible bs) bs)
-splits [] = refl
-splits (b ∷ bs) = at (is_blank b) refl (splits bs) where
-  at : (t : Bool) → is_blank b ≡ t → words_in bs ≡ split (drop (place is_visible bs) bs)
-      → cond t (words_from [] bs) (words_from (b ∷ []) bs) ≡ split (drop (cond (not t) 0 (suc (place is_visible bs))) (b ∷ bs))
-  at true e ih = ih
-  at false e ih = goes_on (b ∷ []) bs ∙ sym (ap (λ t. take (cond t 0 (suc (place is_blank bs))) (b ∷ bs) ∷ words_in (drop (cond t 0 (suc (place is_blank bs))) (b ∷ bs))) e)
+pub nonempty : (w : List ℕ) (ws : List (List ℕ)) → 0 < length w → ended w ws ≡ w ∷ ws
+nonempty [] ws h = absurd (omega arith)
+nonempty (b ∷ bs) ws h = refl
 
-split_behind : (s : List ℕ) → words_in (drop (place is_blank s) s) ≡ following (split s)
-split_behind [] = refl
-split_behind (b ∷ bs) = refl
-
-split_first : (s : List ℕ) → take (place is_blank s) s ≡ get_or (split s) 0 []
-split_first [] = refl
-split_first (b ∷ bs) = refl
-
-module _ (content : List ℕ) (from p q : ℕ) (start : p ≡ place is_visible (drop from content)) (end : q ≡ place is_blank (drop (from + p) content)) where
-  first_at : drop (place is_visible (drop from content)) (drop from content) ≡ drop (from + p) content
-  first_at = ap (λ n. drop n (drop from content)) (sym start) ∙ drop-drop p from content
-
-  pub behind : words_in (drop (from + p + q) content) ≡ following (words_in (drop from content))
-  behind =
-      ap words_in (sym (drop-drop q (from + p) content) ∙ ap (λ n. drop n (drop (from + p) content)) end)
-      ∙ split_behind (drop (from + p) content)
-      ∙ sym (ap following (splits (drop from content) ∙ ap split first_at))
-
-  pub firstly : take q (drop (from + p) content) ≡ get_or (words_in (drop from content)) 0 []
-  firstly =
-      ap (λ n. take n (drop (from + p) content)) end ∙ split_first (drop (from + p) content)
-      ∙ sym (ap (λ ws. get_or ws 0 []) (splits (drop from content) ∙ ap split first_at))
+pub no_word : (bs rest : List ℕ) (start : ℕ) → prefix_len is_blank bs ≡ start → drop start bs ≡ rest → prefix_len is_visible rest ≡ 0 → words_in rest ≡ []
+no_word bs [] start p d q = refl
+no_word bs (b ∷ r) start p d q =
+    let l : start < length bs = omega (arith, length-drop start bs, ap length d) in
+    let e : get_or bs start 0 ≡ b = ap (λ n. get_or bs n 0) (sym (add-zero start)) ∙ sym (get_or-drop start bs 0 0) ∙ ap (λ xs. get_or xs 0 0) d in
+    let v : is_blank b ≡ false = ap is_blank (sym e ∙ ap (λ n. get_or bs n 0) (sym p)) ∙ prefix_len_stops is_blank bs 0 (omega arith) in
+    let n : 1 + prefix_len is_visible r ≡ 0 = sym (ap (λ t. cond (not t) (1 + prefix_len is_visible r) 0) v) ∙ q in
+    absurd (omega arith)

@@ -1,24 +1,10 @@
 -- The words of a line.
-use Rattle.std.specs.Prelude.{ℕ, suc, ◌-◌, Bool, cond, not, ◌||◌, List, [], ◌∷◌, ◌++◌, length, take, ◌==◌, slice_index}
-use Rattle.script_words.specs.declared.words.Class.{Class}
-use Rattle.script_words.specs.declared.words.Class.TheVariants.{Blank, Visible, Byte}
+use Rattle.std.specs.Prelude.{ℕ, ◌-◌, Bool, cond, ◌||◌, List, [], ◌∷◌, ◌++◌, length, take, ◌==◌, slice_index}
+use Rattle.std.specs.List.{before_first}
 
 -- a space or a tab
 abbrev pub is_blank : ℕ → Bool
 is_blank b = b == 32 || b == 9
-
-abbrev pub is_visible : ℕ → Bool
-is_visible b = not (is_blank b)
-
-abbrev pub in_class : Class → ℕ → Bool
-in_class Blank b = is_blank b
-in_class Visible b = is_visible b
-in_class (Byte wanted) b = b == wanted
-
--- the place of the first byte with the property, or the length
-abbrev pub place : (ℕ → Bool) → List ℕ → ℕ
-place p [] = 0
-place p (b ∷ bs) = cond (p b) 0 (suc (place p bs))
 
 -- without a carriage return as the last byte
 abbrev pub without_return : List ℕ → List ℕ
@@ -26,7 +12,7 @@ without_return line = cond (slice_index line (length line - 1) == 13) (take (len
 
 -- up to the first #
 abbrev pub before_comment : List ℕ → List ℕ
-before_comment line = take (place (in_class (Byte 35)) line) line
+before_comment line = before_first (λ b. b == 35) line
 
 abbrev pub content_of : List ℕ → List ℕ
 content_of line = before_comment (without_return line)
@@ -46,8 +32,3 @@ words_in content = words_from [] content
 
 abbrev pub words_of : List ℕ → List (List ℕ)
 words_of line = words_in (content_of line)
-
--- all but the first
-abbrev pub following : List (List ℕ) → List (List ℕ)
-following [] = []
-following (w ∷ ws) = ws

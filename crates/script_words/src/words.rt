@@ -1,89 +1,68 @@
-ghost use Rattle.std.specs.Prelude.{◌≡◌, ◌≤◌, [], length, drop, slice_index_or};
-ghost use Rattle.script_words.specs.Words.{in_class, place, without_return, content_of, words_in, following};
+ghost use Rattle.std.specs.Prelude.{◌≡◌, ℕ, ◌<◌, ◌≤◌, true, false, [], ◌∷◌, length, slice_index, slice_index_or};
+ghost use Rattle.std.specs.Iterator.{YieldsFirstRef, item_count};
+ghost use Rattle.script_words.specs.Words.{is_blank, content_of, words_in};
 
-// What is looked for in the bytes of a line.
-#[derive(Clone, Copy)]
-pub enum Class {
-    Blank,
-    Visible,
-    Byte(u8),
+// Spaces and tabs part words.
+fn is_blank(byte: u8) -> bool
+    ensures { result ≡ is_blank byte }
+{
+    byte == b' ' || byte == b'\t'
 }
 
-impl Class {
-    // Spaces and tabs are blank.
-    fn has(self, byte: u8) -> bool
-        ensures { result ≡ in_class self byte }
-    {
-        match self {
-            Class::Blank => byte == b' ' || byte == b'\t',
-            Class::Visible => byte != b' ' && byte != b'\t',
-            Class::Byte(wanted) => byte == wanted,
-        }
-    }
-}
-
-// The place of the first byte of the class, or the end.
-pub fn place(bytes: &[u8], class: Class) -> usize
-    ensures value { result ≡ place (in_class class) bytes.now }
+// The place of the first byte that passes the test, or the end.
+pub fn place<F: Fn(u8) -> bool>(bytes: &[u8], test: F) -> usize
+    requires { F.IsAlwaysCallable test }
+    ensures before { (k : ℕ) → k < result → F.post test (slice_index bytes.now k) false }
+    ensures found { result < length bytes.now → F.post test (slice_index bytes.now result) true }
     ensures bound { result ≤ length bytes.now }
 {
-    for i in 0..bytes.len() {
-        if class.has(bytes[i]) {
-            return i;
-        }
-    }
-    bytes.len()
-}
-
-// The line without a carriage return at its end.
-fn without_return(line: &[u8]) -> &[u8]
-    ensures { result.now ≡ without_return line.now }
-{
-    if line.is_empty() {
-        return line;
-    }
-    let last = line.len() - 1;
-    if line[last] == b'\r' {
-        return &line[0..last];
-    }
-    line
+    bytes
+        .iter()
+        .position(|byte| test(*byte))
+        .unwrap_or(bytes.len())
 }
 
 // The line without a carriage return at its end and without a comment.
 pub fn content(line: &[u8]) -> &[u8]
     ensures { result.now ≡ content_of line.now }
 {
-    let line = without_return(line);
-    &line[0..place(line, Class::Byte(b'#'))]
+    let line = line.strip_suffix(b"\r").unwrap_or(line);
+    &line[..place(line, |byte| byte == b'#')]
 }
 
-// The place behind the first word at or behind `from`.
-fn behind_word(content: &[u8], from: usize) -> usize
-    requires { from ≤ length content.now }
-    ensures rest { words_in (drop result content.now) ≡ following (words_in (drop from content.now)) }
-    ensures bound { result ≤ length content.now }
+// The first word, empty if there is none, and what follows it.
+fn first_word(content: &[u8]) -> (&[u8], &[u8])
+    ensures some { 0 < length result.0.now → words_in content.now ≡ result.0.now ∷ words_in result.1.now }
+    ensures none { length result.0.now ≡ 0 → (words_in content.now ≡ []) × (words_in result.1.now ≡ []) }
 {
-    let start = from + place(&content[from..], Class::Visible);
-    start + place(&content[start..], Class::Blank)
+    let start = place(content, |byte| !is_blank(byte));
+    let behind = &content[start..];
+    behind.split_at(place(behind, is_blank))
 }
 
-// The first word at or behind `from`; empty if there is none.
-fn first_word(content: &[u8], from: usize) -> &[u8]
-    requires { from ≤ length content.now }
-    ensures { result.now ≡ slice_index_or (words_in (drop from content.now)) 0 [] }
-{
-    let start = from + place(&content[from..], Class::Visible);
-    let end = start + place(&content[start..], Class::Blank);
-    &content[start..end]
+// The words of a line's content that are not read yet.
+#[derive(Clone, Copy)]
+pub struct Words<'a> {
+    pub rest: &'a [u8],
+}
+
+impl<'a> Iterator for Words<'a> {
+    type Item = &'a [u8];
+
+    ghost next_gives = { YieldsFirstRef (λ s. words_in s.rest.now) };
+
+    ghost remaining = { item_count (λ s. words_in s.rest.now) };
+
+    fn next(&mut self) -> Option<&'a [u8]> {
+        let (word, rest) = first_word(self.rest);
+        self.rest = rest;
+        if word.is_empty() { None } else { Some(word) }
+    }
 }
 
 // The word with this index; empty if there are not so many.
 pub fn word(content: &[u8], index: usize) -> &[u8]
     ensures { result.now ≡ slice_index_or (words_in content.now) index [] }
 {
-    let mut at = 0;
-    for _passed in 0..index {
-        at = behind_word(content, at);
-    }
-    first_word(content, at)
+    Words { rest: content }.nth(index).unwrap_or(&[])
 }

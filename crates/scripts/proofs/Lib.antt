@@ -1,2 +1,3 @@
-mod Chains
+mod Verbs
 mod Lists
+mod Lines

@@ -1,17 +1,21 @@
 -- What the words of a command stand for, by their index. A word that is not there is empty.
-use Rattle.std.specs.Prelude.{ℕ, suc, Bool, true, false, cond, List, [], ◌∷◌, length, take, drop, ℤ, pos, Some, None, Ok, Err, vec_items, codes, Option, Result, Vec, ◌==◌, nat_lt, slice_index_or, Float}
+use Rattle.std.specs.Prelude.{ℕ, suc, Bool, true, false, cond, List, [], ◌∷◌, length, take, drop, ℤ, pos, Some, None, Ok, Err, codes, Option, Result, ◌==◌, slice_index_or, Float}
+use Rattle.std.specs.List.{position}
 use Rattle.std.specs.Option.{ok_or}
-use Rattle.std.specs.declared.alloc.Global.{Global}
 use Rattle.values.specs.declared.value.Value.{Value}
 use Rattle.values.specs.declared.value.Value.TheVariants as value
 use Rattle.answers.specs.declared.acknowledgement.Acknowledgement.{Acknowledgement}
 use Rattle.script_numbers.specs.Doubles.{double_of}
 use Rattle.script_numbers.specs.Numbers.{number_of, status_of, signed_of}
 use Rattle.script_words.specs.Texts.{is_text, rest_after}
-use Rattle.script_words.specs.Words.{in_class, place}
-use Rattle.script_words.specs.declared.words.Class.TheVariants.{Byte}
+use Rattle.script_words.specs.Words.{words_in}
+use Rattle.scripts.specs.declared.arguments.Arguments.{Arguments}
 use Rattle.scripts.specs.declared.expected.Expected.{Expected}
 use Rattle.scripts.specs.declared.expected.Expected.TheVariants as expected
+
+-- the words that are not read yet
+abbrev pub left : Arguments → List (List ℕ)
+left a = words_in a.words.rest.now
 
 -- goes on with what was read
 abbrev pub reading : {X Y : Type 0} → Result X Expected → (X → Result Y Expected) → Result Y Expected
@@ -42,12 +46,16 @@ time_at ws i = cond (length (word_at ws i) == 0) (Ok (pos 0)) (ok_or (signed_of 
 abbrev pub count_at : List (List ℕ) → ℕ → Result ℕ Expected
 count_at ws i = cond (length (word_at ws i) == 0) (Ok 1) (ok_or (number_of (word_at ws i)) expected.Number)
 
+-- whether the word is the first of two texts, where it has to be one of them
+abbrev pub either_at : List (List ℕ) → ℕ → List ℕ → List ℕ → Expected → Result Bool Expected
+either_at ws i first second e = cond (is_text (word_at ws i) first) (Ok true) (cond (is_text (word_at ws i) second) (Ok false) (Err e))
+
 abbrev pub switch_at : List (List ℕ) → ℕ → Result Bool Expected
-switch_at ws i = cond (is_text (word_at ws i) (codes "on")) (Ok true) (cond (is_text (word_at ws i) (codes "off")) (Ok false) (Err expected.Switch))
+switch_at ws i = either_at ws i (codes "on") (codes "off") expected.Switch
 
 -- whether the oldest is discarded
 abbrev pub policy_at : List (List ℕ) → ℕ → Result Bool Expected
-policy_at ws i = cond (is_text (word_at ws i) (codes "oldest")) (Ok true) (cond (is_text (word_at ws i) (codes "newest")) (Ok false) (Err expected.Policy))
+policy_at ws i = either_at ws i (codes "oldest") (codes "newest") expected.Policy
 
 abbrev pub int32_of : Option ℤ → Option Value
 int32_of None = None
@@ -85,12 +93,13 @@ both_of None n = None
 both_of (Some s) None = None
 both_of (Some s) (Some n) = Some (record { subscription = s; number = n })
 
-abbrev pub at_colon : ℕ → List ℕ → Option Acknowledgement
-at_colon i word = cond (nat_lt i (length word)) (both_of (number_of (take i word)) (number_of (drop (suc i) word))) None
+abbrev pub at_colon : Option ℕ → List ℕ → Option Acknowledgement
+at_colon None word = None
+at_colon (Some i) word = both_of (number_of (take i word)) (number_of (drop (suc i) word))
 
 -- SUB:NUMBER
 abbrev pub acknowledgement_of : List ℕ → Option Acknowledgement
-acknowledgement_of word = at_colon (place (in_class (Byte 58)) word) word
+acknowledgement_of word = at_colon (position (λ b. b == 58) word) word
 
 abbrev pub with_first : Option Acknowledgement → Result (List Acknowledgement) Expected → Result (List Acknowledgement) Expected
 with_first None others = Err expected.Acknowledgement
@@ -101,8 +110,3 @@ with_first (Some a) (Err e) = Err e
 abbrev pub acknowledgements_of : List (List ℕ) → Result (List Acknowledgement) Expected
 acknowledgements_of [] = Ok []
 acknowledgements_of (w ∷ ws) = with_first (acknowledgement_of w) (acknowledgements_of ws)
-
--- the answer with the list that the vector holds
-abbrev pub list_of : Result (Vec Acknowledgement Global) Expected → Result (List Acknowledgement) Expected
-list_of (Ok v) = Ok (vec_items v)
-list_of (Err e) = Err e

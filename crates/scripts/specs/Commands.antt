@@ -1,11 +1,13 @@
 -- The command that a list of words says.
-use Rattle.std.specs.Prelude.{ℕ, ◌+◌, cond, List, length, drop, Some, None, Ok, Err, vec_items, codes, Option, Result, ◌==◌, Float}
-use Rattle.std.specs.Option.{ok_or}
+use Rattle.std.specs.Prelude.{ℕ, cond, List, [], ◌∷◌, length, drop, Some, None, Ok, Err, vec_items, codes, Option, Result, ◌==◌, Float}
+use Rattle.std.specs.List.{find}
+use Rattle.std.specs.Option.{ok_or, option_map}
 use Rattle.answers.specs.declared.acknowledgement.Acknowledgement.{Acknowledgement}
 use Rattle.model.specs.declared.parameters.MonitoringParameters.{MonitoringParameters}
 use Rattle.script_numbers.specs.Numbers.{number_of}
 use Rattle.script_words.specs.Texts.{is_text}
 use Rattle.script_words.specs.Words.{words_of}
+use Rattle.subscriptions.specs.declared.parameters.SubscriptionParameters.{SubscriptionParameters}
 use Rattle.scripts.specs.Arguments.{reading, word_at, number_at, signed_at, status_at, time_at, count_at, double_at, switch_at, policy_at, value_at, end_at, acknowledgements_of}
 use Rattle.scripts.specs.declared.command.Command.{Command}
 use Rattle.scripts.specs.declared.command.Command.TheVariants.{New, Split, Write, Certificate, Today, Room, Results, ResultsMatch, CreateSubscription, ModifySubscription, DeleteSubscription, SetPublishing, CreateItem, ModifyItem, DeleteItem, SetMode, Publish, Republish, Tick, Queued, Kept, Waiting}
@@ -28,8 +30,8 @@ said (Today a) = Plain (Today a)
 said (Room a) = Plain (Room a)
 said (Results a) = Plain (Results a)
 said ResultsMatch = Plain ResultsMatch
-said (CreateSubscription a b c d e) = Plain (CreateSubscription a b c d e)
-said (ModifySubscription a b c d e) = Plain (ModifySubscription a b c d e)
+said (CreateSubscription a b) = Plain (CreateSubscription a b)
+said (ModifySubscription a b) = Plain (ModifySubscription a b)
 said (DeleteSubscription a) = Plain (DeleteSubscription a)
 said (SetPublishing a b) = Plain (SetPublishing a b)
 said (CreateItem a b c d) = Plain (CreateItem a b c d)
@@ -47,58 +49,41 @@ abbrev pub said_by : Result Command Expected → Result Said Expected
 said_by (Ok c) = Ok (said c)
 said_by (Err e) = Err e
 
-abbrev pub said_in : Result (Option Command) Expected → Result (Option Said) Expected
-said_in (Ok None) = Ok None
-said_in (Ok (Some c)) = Ok (Some (said c))
-said_in (Err e) = Err e
-
-abbrev pub source_verb : List ℕ → Option Verb
-source_verb word =
-    cond (is_text word (codes "new")) (Some verb.New)
-    (cond (is_text word (codes "split")) (Some verb.Split)
-    (cond (is_text word (codes "write")) (Some verb.Write)
-    (cond (is_text word (codes "certificate")) (Some verb.Certificate)
-    (cond (is_text word (codes "today")) (Some verb.Today)
-    (cond (is_text word (codes "room")) (Some verb.Room)
-    (cond (is_text word (codes "results")) (Some verb.Results)
-    None))))))
-
-abbrev pub subscription_verb : List ℕ → Option Verb
-subscription_verb word =
-    cond (is_text word (codes "create-subscription")) (Some verb.CreateSubscription)
-    (cond (is_text word (codes "modify-subscription")) (Some verb.ModifySubscription)
-    (cond (is_text word (codes "delete-subscription")) (Some verb.DeleteSubscription)
-    (cond (is_text word (codes "set-publishing")) (Some verb.SetPublishing)
-    None)))
-
-abbrev pub item_verb : List ℕ → Option Verb
-item_verb word =
-    cond (is_text word (codes "create-item")) (Some verb.CreateItem)
-    (cond (is_text word (codes "modify-item")) (Some verb.ModifyItem)
-    (cond (is_text word (codes "delete-item")) (Some verb.DeleteItem)
-    (cond (is_text word (codes "set-mode")) (Some verb.SetMode)
-    None)))
-
-abbrev pub message_verb : List ℕ → Option Verb
-message_verb word =
-    cond (is_text word (codes "republish")) (Some verb.Republish)
-    (cond (is_text word (codes "tick")) (Some verb.Tick)
-    (cond (is_text word (codes "queued")) (Some verb.Queued)
-    (cond (is_text word (codes "kept")) (Some verb.Kept)
-    (cond (is_text word (codes "waiting")) (Some verb.Waiting)
-    None))))
-
-abbrev pub or_verb : Option Verb → Option Verb → Option Verb
-or_verb None other = other
-or_verb (Some v) other = Some v
+abbrev pub verbs : List (List ℕ × Verb)
+verbs =
+    (codes "new", verb.New) ∷
+    (codes "split", verb.Split) ∷
+    (codes "write", verb.Write) ∷
+    (codes "certificate", verb.Certificate) ∷
+    (codes "today", verb.Today) ∷
+    (codes "room", verb.Room) ∷
+    (codes "results", verb.Results) ∷
+    (codes "create-subscription", verb.CreateSubscription) ∷
+    (codes "modify-subscription", verb.ModifySubscription) ∷
+    (codes "delete-subscription", verb.DeleteSubscription) ∷
+    (codes "set-publishing", verb.SetPublishing) ∷
+    (codes "create-item", verb.CreateItem) ∷
+    (codes "modify-item", verb.ModifyItem) ∷
+    (codes "delete-item", verb.DeleteItem) ∷
+    (codes "set-mode", verb.SetMode) ∷
+    (codes "republish", verb.Republish) ∷
+    (codes "tick", verb.Tick) ∷
+    (codes "queued", verb.Queued) ∷
+    (codes "kept", verb.Kept) ∷
+    (codes "waiting", verb.Waiting) ∷
+    []
 
 -- the first word of a command other than publish
-abbrev pub verb_of : List ℕ → Option Verb
-verb_of word = or_verb (source_verb word) (or_verb (subscription_verb word) (or_verb (item_verb word) (message_verb word)))
+unfoldable pub verb_of : List ℕ → Option Verb
+verb_of word = option_map (λ e. e.1) (find (λ e. is_text word e.0) verbs)
 
 -- the command, if the line ends with the words before this index
 abbrev pub only : List (List ℕ) → ℕ → Command → Result Said Expected
 only ws end c = reading (end_at ws end) (λ _. Ok (Plain c))
+
+-- what was read, if no word is left behind it
+abbrev pub ended_by : List (List ℕ) → Result Command Expected → Result Said Expected
+ended_by left r = reading r (λ c. reading (end_at left 0) (λ _. Ok (said c)))
 
 -- new FIRST
 abbrev pub new_of : List (List ℕ) → Result Said Expected
@@ -131,25 +116,28 @@ room_of ws =
     reading (number_at ws 1) (λ count.
     only ws 2 (Room count))
 
+-- MS K L M
+abbrev pub subscription_of : List (List ℕ) → Result SubscriptionParameters Expected
+subscription_of ws =
+    reading (signed_at ws 0) (λ ms.
+    reading (number_at ws 1) (λ keep.
+    reading (number_at ws 2) (λ lifetime.
+    reading (number_at ws 3) (λ limit.
+    Ok (record { milliseconds = ms; keep_alive = keep; lifetime = lifetime; limit = limit })))))
+
 -- create-subscription MS K L M on|off
 abbrev pub create_subscription_of : List (List ℕ) → Result Said Expected
 create_subscription_of ws =
-    reading (signed_at ws 1) (λ ms.
-    reading (number_at ws 2) (λ keep.
-    reading (number_at ws 3) (λ lifetime.
-    reading (number_at ws 4) (λ limit.
+    reading (subscription_of (drop 1 ws)) (λ parameters.
     reading (switch_at ws 5) (λ enabled.
-    only ws 6 (CreateSubscription ms keep lifetime limit enabled))))))
+    only ws 6 (CreateSubscription parameters enabled)))
 
 -- modify-subscription SUB MS K L M
 abbrev pub modify_subscription_of : List (List ℕ) → Result Said Expected
 modify_subscription_of ws =
     reading (number_at ws 1) (λ id.
-    reading (signed_at ws 2) (λ ms.
-    reading (number_at ws 3) (λ keep.
-    reading (number_at ws 4) (λ lifetime.
-    reading (number_at ws 5) (λ limit.
-    only ws 6 (ModifySubscription id ms keep lifetime limit))))))
+    reading (subscription_of (drop 2 ws)) (λ parameters.
+    only ws 6 (ModifySubscription id parameters)))
 
 -- delete-subscription SUB
 abbrev pub delete_subscription_of : List (List ℕ) → Result Said Expected
@@ -221,15 +209,15 @@ results_of ws =
     cond (is_text (word_at ws 1) (codes "match")) (only ws 2 ResultsMatch)
     (reading (ok_or (number_of (word_at ws 1)) expected.NumberOrMatch) (λ count. only ws 2 (Results count)))
 
--- TRIGGER TYPE D MS SIZE oldest|newest, from this index on
-abbrev pub parameters_at : List (List ℕ) → ℕ → ℕ → Option Float → Result MonitoringParameters Expected
-parameters_at ws handle i other =
-    reading (number_at ws i) (λ trigger.
-    reading (number_at ws (i + 1)) (λ type.
-    reading (double_at ws (i + 2) other) (λ width.
-    reading (signed_at ws (i + 3)) (λ ms.
-    reading (number_at ws (i + 4)) (λ size.
-    reading (policy_at ws (i + 5)) (λ oldest.
+-- TRIGGER TYPE D MS SIZE oldest|newest
+abbrev pub monitoring_of : List (List ℕ) → ℕ → Option Float → Result MonitoringParameters Expected
+monitoring_of ws handle other =
+    reading (number_at ws 0) (λ trigger.
+    reading (number_at ws 1) (λ type.
+    reading (double_at ws 2 other) (λ width.
+    reading (signed_at ws 3) (λ ms.
+    reading (number_at ws 4) (λ size.
+    reading (policy_at ws 5) (λ oldest.
     Ok (record {
       client_handle = handle;
       filter = record { trigger = trigger; deadband = type; deadband_value = width };
@@ -245,7 +233,7 @@ create_item_of ws other =
     reading (number_at ws 2) (λ node.
     reading (number_at ws 3) (λ handle.
     reading (number_at ws 4) (λ mode.
-    reading (parameters_at ws handle 5 other) (λ parameters.
+    reading (monitoring_of (drop 5 ws) handle other) (λ parameters.
     only ws 11 (CreateItem subscription node mode parameters))))))
 
 -- modify-item SUB ITEM HANDLE TRIGGER TYPE D MS SIZE oldest|newest
@@ -254,7 +242,7 @@ modify_item_of ws other =
     reading (number_at ws 1) (λ subscription.
     reading (number_at ws 2) (λ item.
     reading (number_at ws 3) (λ handle.
-    reading (parameters_at ws handle 4 other) (λ parameters.
+    reading (monitoring_of (drop 4 ws) handle other) (λ parameters.
     only ws 10 (ModifyItem subscription item parameters)))))
 
 -- queued
@@ -283,9 +271,8 @@ plain_of verb.Queued ws other = queued_of ws
 plain_of verb.Kept ws other = kept_of ws
 plain_of verb.Waiting ws other = waiting_of ws
 
-abbrev pub by_verb : Option Verb → List (List ℕ) → Option Float → Result Said Expected
-by_verb None ws other = Err expected.Command
-by_verb (Some v) ws other = plain_of v ws other
+abbrev pub by_verb : List ℕ → List (List ℕ) → Option Float → Result Said Expected
+by_verb word ws other = reading (ok_or (verb_of word) expected.Command) (λ v. plain_of v ws other)
 
 -- publish HANDLE [SUB:NUMBER ..]
 abbrev pub publish_of : List (List ℕ) → Result Said Expected
@@ -295,11 +282,13 @@ abbrev pub some_of : Result Said Expected → Result (Option Said) Expected
 some_of (Ok s) = Ok (Some s)
 some_of (Err e) = Err e
 
+-- the command with this first word
+abbrev pub starting_with : List ℕ → List (List ℕ) → Option Float → Result Said Expected
+starting_with word ws other = cond (is_text word (codes "publish")) (publish_of ws) (by_verb word ws other)
+
 -- no words are no command
 abbrev pub command_of : List (List ℕ) → Option Float → Result (Option Said) Expected
-command_of ws other =
-    cond (length (word_at ws 0) == 0) (Ok None)
-    (some_of (cond (is_text (word_at ws 0) (codes "publish")) (publish_of ws) (by_verb (verb_of (word_at ws 0)) ws other)))
+command_of ws other = cond (length (word_at ws 0) == 0) (Ok None) (some_of (starting_with (word_at ws 0) ws other))
 
 -- what a line says, where `other` is what the standard library reads of its Double
 abbrev pub line_of : List ℕ → Option Float → Result (Option Said) Expected

@@ -1,3 +1,4 @@
 pub mod Texts
+pub mod Errors
 pub mod Arguments
 pub mod Commands

@@ -1,53 +1,41 @@
-ghost use Rattle.std.specs.Prelude.{◌≡◌, drop, IfOk};
+ghost use Rattle.std.specs.Prelude.{◌≡◌, ◌==◌, ◌<◌, length, position, IfSome, vec_items};
 ghost use Rattle.script_words.specs.Words.{words_in};
-ghost use Rattle.scripts.specs.Arguments.{both_of, acknowledgement_of, acknowledgements_of, list_of};
+ghost use Rattle.scripts.specs.Arguments.{acknowledgement_of, acknowledgements_of};
+ghost use Rattle.scripts.specs.Errors.{Answers};
 
+use crate::error::ParseError;
 use crate::expected::Expected;
 use answers::acknowledgement::Acknowledgement;
 use script_numbers::number::number;
-use script_words::words::{Class, place, word};
-use std::alloc::{AllocError, Global};
+use script_words::words::Words;
+use std::alloc::Global;
 
-fn both(subscription: Option<u32>, number: Option<u32>) -> Option<Acknowledgement>
-    ensures { result ≡ both_of subscription number }
+// The place of the first colon.
+fn colon(word: &[u8]) -> Option<usize>
+    ensures place { result ≡ position (λ b. b == 58) word.now }
+    ensures within { IfSome result (λ i. i < length word.now) }
 {
-    let subscription = subscription?;
-    let number = number?;
-    Some(Acknowledgement {
-        subscription,
-        number,
-    })
+    word.iter().position(|byte| *byte == b':')
 }
 
 // SUB:NUMBER.
 pub fn acknowledgement(word: &[u8]) -> Option<Acknowledgement>
     ensures { result ≡ acknowledgement_of word.now }
 {
-    let colon = place(word, Class::Byte(b':'));
-    if colon >= word.len() {
-        return None;
-    }
-    both(number(&word[0..colon]), number(&word[colon + 1..]))
+    let colon = colon(word)?;
+    Some(Acknowledgement {
+        subscription: number(&word[..colon])?,
+        number: number(&word[colon + 1..])?,
+    })
 }
 
-// The acknowledgements from the third word on.
-pub fn acknowledgements(
-    content: &[u8],
-    heap: Global,
-) -> Result<Result<Vec<Acknowledgement>, Expected>, AllocError>
-    ensures { IfOk result (λ x. list_of x ≡ acknowledgements_of (drop 2 (words_in content.now))) }
+// Each word is an acknowledgement.
+pub fn acknowledgements(words: Words, heap: Global) -> Result<Vec<Acknowledgement>, ParseError>
+    ensures { Answers vec_items result (acknowledgements_of (words_in words.entry.rest.now)) }
 {
     let mut read = Vec::new(heap);
-    let mut index = 2;
-    loop {
-        let next = word(content, index);
-        if next.is_empty() {
-            return Ok(Ok(read));
-        }
-        let Some(entry) = acknowledgement(next) else {
-            return Ok(Err(Expected::Acknowledgement));
-        };
-        read.push(entry)?;
-        index += 1;
+    for word in words {
+        read.push(acknowledgement(word).ok_or(Expected::Acknowledgement)?)?;
     }
+    Ok(read)
 }

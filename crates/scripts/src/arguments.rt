@@ -1,107 +1,158 @@
-// The arguments of a command, by the index of their word.
-ghost use Rattle.std.specs.Prelude.{◌≡◌};
-ghost use Rattle.script_words.specs.Words.{words_in};
-ghost use Rattle.scripts.specs.Arguments.{number_at, signed_at, double_at, status_at, time_at, count_at, switch_at, policy_at, value_at, end_at};
+// The arguments of a command, from left to right.
+ghost use Rattle.std.specs.Prelude.{◌≡◌, ◌<◌, length, drop, Option};
+ghost use Rattle.std.specs.Fn.{FnOnceReturnsAt};
+ghost use Rattle.std.specs.Option.{ok_or};
+ghost use Rattle.scripts.specs.Arguments.{left, word_at, number_at, signed_at, double_at, status_at, time_at, count_at, either_at, switch_at, policy_at, value_at, end_at};
 
 use crate::expected::Expected;
 use crate::value::value;
 use script_numbers::double::double;
 use script_numbers::number::{number, signed32, signed64, status};
 use script_words::text::is_text;
-use script_words::words::word;
+use script_words::words::Words;
 use values::value::Value;
 
-pub fn number_at(content: &[u8], index: usize) -> Result<u32, Expected>
-    ensures { result ≡ number_at (words_in content.now) index }
-{
-    number(word(content, index)).ok_or(Expected::Number)
+// The words that are not read yet; `other` is what the standard library reads of the command's Double.
+#[derive(Clone, Copy)]
+pub struct Arguments<'a> {
+    pub words: Words<'a>,
+    pub other: Option<f64>,
 }
 
-pub fn signed_at(content: &[u8], index: usize) -> Result<i32, Expected>
-    ensures { result ≡ signed_at (words_in content.now) index }
-{
-    signed32(word(content, index)).ok_or(Expected::Signed)
-}
-
-pub fn double_at(content: &[u8], index: usize, other: Option<f64>) -> Result<f64, Expected>
-    ensures { result ≡ double_at (words_in content.now) index other }
-{
-    double(word(content, index), other).ok_or(Expected::Double)
-}
-
-// The status code, 0 where it is left out.
-pub fn status_at(content: &[u8], index: usize) -> Result<u32, Expected>
-    ensures { result ≡ status_at (words_in content.now) index }
-{
-    let word = word(content, index);
-    if word.is_empty() {
-        return Ok(0);
+impl<'a> Arguments<'a> {
+    // The next word, empty where none is left.
+    pub fn word(&mut self) -> &'a [u8]
+        ensures value { result.now ≡ word_at (left self.old) 0 }
+        ensures left { left self.new ≡ drop 1 (left self.old) }
+        ensures other { self.new.other ≡ self.old.other }
+    {
+        self.words.next().unwrap_or(&[])
     }
-    status(word).ok_or(Expected::Status)
-}
 
-// The time, 0 where it is left out.
-pub fn time_at(content: &[u8], index: usize) -> Result<i64, Expected>
-    ensures { result ≡ time_at (words_in content.now) index }
-{
-    let word = word(content, index);
-    if word.is_empty() {
-        return Ok(0);
+    pub fn number(&mut self) -> Result<u32, Expected>
+        ensures value { result ≡ number_at (left self.old) 0 }
+        ensures left { left self.new ≡ drop 1 (left self.old) }
+        ensures other { self.new.other ≡ self.old.other }
+    {
+        number(self.word()).ok_or(Expected::Number)
     }
-    signed64(word).ok_or(Expected::Time)
-}
 
-// The count, 1 where it is left out.
-pub fn count_at(content: &[u8], index: usize) -> Result<u32, Expected>
-    ensures { result ≡ count_at (words_in content.now) index }
-{
-    let word = word(content, index);
-    if word.is_empty() {
-        return Ok(1);
+    pub fn signed(&mut self) -> Result<i32, Expected>
+        ensures value { result ≡ signed_at (left self.old) 0 }
+        ensures left { left self.new ≡ drop 1 (left self.old) }
+        ensures other { self.new.other ≡ self.old.other }
+    {
+        signed32(self.word()).ok_or(Expected::Signed)
     }
-    number(word).ok_or(Expected::Number)
-}
 
-// Whether it is on.
-pub fn switch_at(content: &[u8], index: usize) -> Result<bool, Expected>
-    ensures { result ≡ switch_at (words_in content.now) index }
-{
-    let word = word(content, index);
-    if is_text(word, b"on") {
-        return Ok(true);
+    pub fn double(&mut self) -> Result<f64, Expected>
+        ensures value { result ≡ double_at (left self.old) 0 self.old.other }
+        ensures left { left self.new ≡ drop 1 (left self.old) }
+        ensures other { self.new.other ≡ self.old.other }
+    {
+        double(self.word(), self.other).ok_or(Expected::Double)
     }
-    if is_text(word, b"off") {
-        return Ok(false);
-    }
-    Err(Expected::Switch)
-}
 
-// Whether the oldest is discarded.
-pub fn policy_at(content: &[u8], index: usize) -> Result<bool, Expected>
-    ensures { result ≡ policy_at (words_in content.now) index }
-{
-    let word = word(content, index);
-    if is_text(word, b"oldest") {
-        return Ok(true);
+    pub fn value(&mut self) -> Result<Value, Expected>
+        ensures value { result ≡ value_at (left self.old) 0 self.old.other }
+        ensures left { left self.new ≡ drop 1 (left self.old) }
+        ensures other { self.new.other ≡ self.old.other }
+    {
+        value(self.word(), self.other).ok_or(Expected::Value)
     }
-    if is_text(word, b"newest") {
-        return Ok(false);
-    }
-    Err(Expected::Policy)
-}
 
-pub fn value_at(content: &[u8], index: usize, other: Option<f64>) -> Result<Value, Expected>
-    ensures { result ≡ value_at (words_in content.now) index other }
-{
-    value(word(content, index), other).ok_or(Expected::Value)
-}
-
-// There is no word with this index.
-pub fn end_at(content: &[u8], index: usize) -> Result<(), Expected>
-    ensures { result ≡ end_at (words_in content.now) index }
-{
-    if word(content, index).is_empty() {
-        return Ok(());
+    // What is read of the next word, or the default where it is left out.
+    fn or_default<T: Drop, F: FnOnce(&[u8]) -> Option<T>>(
+        &mut self,
+        default: T,
+        expected: Expected,
+        read: F,
+    ) -> Result<T, Expected>
+        requires { F.IsAlwaysCallable read }
+        ensures absent { length (word_at (left self.old) 0) ≡ 0 → result ≡ Ok default }
+        ensures given { 0 < length (word_at (left self.old) 0) → (r : Option T) × FnOnceReturnsAt F.FnOnce read (word_at (left self.old) 0) r × (result ≡ ok_or r expected) }
+        ensures left { left self.new ≡ drop 1 (left self.old) }
+        ensures other { self.new.other ≡ self.old.other }
+    {
+        let word = self.word();
+        if word.is_empty() {
+            Ok(default)
+        } else {
+            read(word).ok_or(expected)
+        }
     }
-    Err(Expected::End)
+
+    // The status code, 0 where it is left out.
+    pub fn status(&mut self) -> Result<u32, Expected>
+        ensures value { result ≡ status_at (left self.old) 0 }
+        ensures left { left self.new ≡ drop 1 (left self.old) }
+        ensures other { self.new.other ≡ self.old.other }
+    {
+        self.or_default(0, Expected::Status, status)
+    }
+
+    // The time, 0 where it is left out.
+    pub fn time(&mut self) -> Result<i64, Expected>
+        ensures value { result ≡ time_at (left self.old) 0 }
+        ensures left { left self.new ≡ drop 1 (left self.old) }
+        ensures other { self.new.other ≡ self.old.other }
+    {
+        self.or_default(0, Expected::Time, signed64)
+    }
+
+    // The count, 1 where it is left out.
+    pub fn count(&mut self) -> Result<u32, Expected>
+        ensures value { result ≡ count_at (left self.old) 0 }
+        ensures left { left self.new ≡ drop 1 (left self.old) }
+        ensures other { self.new.other ≡ self.old.other }
+    {
+        self.or_default(1, Expected::Number, number)
+    }
+
+    // Whether the next word is the first of the two texts, where it has to be one of them.
+    fn either(&mut self, first: &[u8], second: &[u8], expected: Expected) -> Result<bool, Expected>
+        ensures value { result ≡ either_at (left self.old) 0 first.now second.now expected }
+        ensures left { left self.new ≡ drop 1 (left self.old) }
+        ensures other { self.new.other ≡ self.old.other }
+    {
+        let word = self.word();
+        if is_text(word, first) {
+            Ok(true)
+        } else if is_text(word, second) {
+            Ok(false)
+        } else {
+            Err(expected)
+        }
+    }
+
+    // Whether it is on.
+    pub fn switch(&mut self) -> Result<bool, Expected>
+        ensures value { result ≡ switch_at (left self.old) 0 }
+        ensures left { left self.new ≡ drop 1 (left self.old) }
+        ensures other { self.new.other ≡ self.old.other }
+    {
+        self.either(b"on", b"off", Expected::Switch)
+    }
+
+    // Whether the oldest is discarded.
+    pub fn policy(&mut self) -> Result<bool, Expected>
+        ensures value { result ≡ policy_at (left self.old) 0 }
+        ensures left { left self.new ≡ drop 1 (left self.old) }
+        ensures other { self.new.other ≡ self.old.other }
+    {
+        self.either(b"oldest", b"newest", Expected::Policy)
+    }
+
+    // No word is left.
+    pub fn end(&mut self) -> Result<(), Expected>
+        ensures value { result ≡ end_at (left self.old) 0 }
+        ensures left { left self.new ≡ drop 1 (left self.old) }
+        ensures other { self.new.other ≡ self.old.other }
+    {
+        if self.word().is_empty() {
+            Ok(())
+        } else {
+            Err(Expected::End)
+        }
+    }
 }

@@ -1,8 +1,10 @@
 use answers::acknowledgement::Acknowledgement;
 use model::parameters::MonitoringParameters;
+use subscriptions::parameters::SubscriptionParameters;
 use values::value::Sample;
 
-// What a line of a script asks for.
+// What a line of a script asks for. It holds no `Call` of `replay`, though cases are alike: a script says once how long the
+// lists are, and a call says it each time.
 #[derive(Drop)]
 pub enum Command {
     New(u32),
@@ -21,18 +23,12 @@ pub enum Command {
     Results(u32),
     ResultsMatch,
     CreateSubscription {
-        milliseconds: i32,
-        keep_alive: u32,
-        lifetime: u32,
-        limit: u32,
+        parameters: SubscriptionParameters,
         enabled: bool,
     },
     ModifySubscription {
         id: u32,
-        milliseconds: i32,
-        keep_alive: u32,
-        lifetime: u32,
-        limit: u32,
+        parameters: SubscriptionParameters,
     },
     DeleteSubscription(u32),
     SetPublishing {

@@ -4,6 +4,7 @@
 mod acknowledgements;
 mod arguments;
 pub mod command;
+pub mod error;
 pub mod expected;
 pub mod parse;
 mod plain;

@@ -1,32 +1,27 @@
-ghost use Rattle.std.specs.Prelude.{◌≡◌, IfOk};
-ghost use Rattle.script_words.specs.Words.{words_in};
-ghost use Rattle.scripts.specs.Commands.{said_by, said_in, publish_of, line_of};
+ghost use Rattle.std.specs.Prelude.{◌≡◌, ◌∷◌, ℕ, List, option_map};
+ghost use Rattle.scripts.specs.Arguments.{left};
+ghost use Rattle.scripts.specs.Commands.{said, publish_of, starting_with, line_of};
+ghost use Rattle.scripts.specs.Errors.{Answers};
 
 use crate::acknowledgements::acknowledgements;
-use crate::arguments::number_at;
+use crate::arguments::Arguments;
 use crate::command::Command;
-use crate::expected::Expected;
+use crate::error::ParseError;
 use crate::plain::plain;
-use crate::verb::verb_of;
+use crate::verb::Verb;
 use script_words::text::{after, is_text};
-use script_words::words::{content, word};
-use std::alloc::{AllocError, Global};
+use script_words::words::{Words, content, word};
+use std::alloc::Global;
 use std::str::from_utf8;
 
-fn publish(content: &[u8], heap: Global) -> Result<Result<Command, Expected>, AllocError>
-    ensures { IfOk result (λ x. said_by x ≡ publish_of (words_in content.now)) }
+fn publish(arguments: &mut Arguments, heap: Global) -> Result<Command, ParseError>
+    ensures { (verb : List ℕ) → Answers said result (publish_of (verb ∷ left arguments.old)) }
 {
-    let handle = match number_at(content, 1) {
-        Ok(handle) => handle,
-        Err(expected) => return Ok(Err(expected)),
-    };
-    match acknowledgements(content, heap)? {
-        Ok(acknowledgements) => Ok(Ok(Command::Publish {
-            handle,
-            acknowledgements,
-        })),
-        Err(expected) => Ok(Err(expected)),
-    }
+    let handle = arguments.number()?;
+    Ok(Command::Publish {
+        handle,
+        acknowledgements: acknowledgements(arguments.words, heap)?,
+    })
 }
 
 // What the standard library reads of a word as a Double.
@@ -47,31 +42,29 @@ pub fn other_double(line: &[u8]) -> Option<f64> {
     library_double(word(content, 6))
 }
 
-// What the line says: a command, nothing, or what was expected where it cannot be read. `other` is what the standard library
-// reads of the line's Double.
-pub fn parse(
-    line: &[u8],
-    other: Option<f64>,
-    heap: Global,
-) -> Result<Result<Option<Command>, Expected>, AllocError>
-    ensures { IfOk result (λ x. said_in x ≡ line_of line.now other) }
+// The command with this first word.
+fn command(first: &[u8], arguments: &mut Arguments, heap: Global) -> Result<Command, ParseError>
+    ensures { Answers said result (starting_with first.now (first.now ∷ left arguments.old) arguments.old.other) }
 {
-    let content = content(line);
-    let first = word(content, 0);
-    if first.is_empty() {
-        return Ok(Ok(None));
-    }
     if is_text(first, b"publish") {
-        return match publish(content, heap)? {
-            Ok(command) => Ok(Ok(Some(command))),
-            Err(expected) => Ok(Err(expected)),
-        };
+        return publish(arguments, heap);
     }
-    let Some(verb) = verb_of(first) else {
-        return Ok(Err(Expected::Command));
+    Ok(plain(Verb::try_from(first)?, arguments)?)
+}
+
+// What the line says, a command or nothing. `other` is what the standard library reads of the line's Double.
+pub fn parse(line: &[u8], other: Option<f64>, heap: Global) -> Result<Option<Command>, ParseError>
+    ensures { Answers (option_map said) result (line_of line.now other) }
+{
+    let mut arguments = Arguments {
+        words: Words {
+            rest: content(line),
+        },
+        other,
     };
-    match plain(verb, content, other) {
-        Ok(command) => Ok(Ok(Some(command))),
-        Err(expected) => Ok(Err(expected)),
+    let first = arguments.word();
+    if first.is_empty() {
+        return Ok(None);
     }
+    Ok(Some(command(first, &mut arguments, heap)?))
 }

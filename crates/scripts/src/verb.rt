@@ -1,6 +1,9 @@
 ghost use Rattle.std.specs.Prelude.{◌≡◌};
-ghost use Rattle.scripts.specs.Commands.{source_verb, subscription_verb, item_verb, message_verb, verb_of};
+ghost use Rattle.std.specs.Option.{ok_or};
+ghost use Rattle.scripts.specs.Commands.{verb_of};
+ghost use Rattle.scripts.specs.declared.expected.Expected.TheVariants.{Command};
 
+use crate::expected::Expected;
 use script_words::text::is_text;
 
 // The first word of a command other than publish.
@@ -28,101 +31,39 @@ pub enum Verb {
     Waiting,
 }
 
-fn source_verb(word: &[u8]) -> Option<Verb>
-    ensures { result ≡ source_verb word.now }
-{
-    if is_text(word, b"new") {
-        return Some(Verb::New);
-    }
-    if is_text(word, b"split") {
-        return Some(Verb::Split);
-    }
-    if is_text(word, b"write") {
-        return Some(Verb::Write);
-    }
-    if is_text(word, b"certificate") {
-        return Some(Verb::Certificate);
-    }
-    if is_text(word, b"today") {
-        return Some(Verb::Today);
-    }
-    if is_text(word, b"room") {
-        return Some(Verb::Room);
-    }
-    if is_text(word, b"results") {
-        return Some(Verb::Results);
-    }
-    None
-}
+const VERBS: [(&[u8], Verb); 20] = [
+    (b"new", Verb::New),
+    (b"split", Verb::Split),
+    (b"write", Verb::Write),
+    (b"certificate", Verb::Certificate),
+    (b"today", Verb::Today),
+    (b"room", Verb::Room),
+    (b"results", Verb::Results),
+    (b"create-subscription", Verb::CreateSubscription),
+    (b"modify-subscription", Verb::ModifySubscription),
+    (b"delete-subscription", Verb::DeleteSubscription),
+    (b"set-publishing", Verb::SetPublishing),
+    (b"create-item", Verb::CreateItem),
+    (b"modify-item", Verb::ModifyItem),
+    (b"delete-item", Verb::DeleteItem),
+    (b"set-mode", Verb::SetMode),
+    (b"republish", Verb::Republish),
+    (b"tick", Verb::Tick),
+    (b"queued", Verb::Queued),
+    (b"kept", Verb::Kept),
+    (b"waiting", Verb::Waiting),
+];
 
-fn subscription_verb(word: &[u8]) -> Option<Verb>
-    ensures { result ≡ subscription_verb word.now }
-{
-    if is_text(word, b"create-subscription") {
-        return Some(Verb::CreateSubscription);
-    }
-    if is_text(word, b"modify-subscription") {
-        return Some(Verb::ModifySubscription);
-    }
-    if is_text(word, b"delete-subscription") {
-        return Some(Verb::DeleteSubscription);
-    }
-    if is_text(word, b"set-publishing") {
-        return Some(Verb::SetPublishing);
-    }
-    None
-}
+impl<'a> TryFrom<&'a [u8]> for Verb {
+    type Error = Expected;
 
-fn item_verb(word: &[u8]) -> Option<Verb>
-    ensures { result ≡ item_verb word.now }
-{
-    if is_text(word, b"create-item") {
-        return Some(Verb::CreateItem);
-    }
-    if is_text(word, b"modify-item") {
-        return Some(Verb::ModifyItem);
-    }
-    if is_text(word, b"delete-item") {
-        return Some(Verb::DeleteItem);
-    }
-    if is_text(word, b"set-mode") {
-        return Some(Verb::SetMode);
-    }
-    None
-}
+    ghost try_from_gives = { λ word r. r ≡ ok_or (verb_of word.now) Command };
 
-fn message_verb(word: &[u8]) -> Option<Verb>
-    ensures { result ≡ message_verb word.now }
-{
-    if is_text(word, b"republish") {
-        return Some(Verb::Republish);
+    fn try_from(word: &'a [u8]) -> Result<Verb, Expected> {
+        VERBS
+            .iter()
+            .find(|(text, _)| is_text(word, text))
+            .map(|(_, verb)| *verb)
+            .ok_or(Expected::Command)
     }
-    if is_text(word, b"tick") {
-        return Some(Verb::Tick);
-    }
-    if is_text(word, b"queued") {
-        return Some(Verb::Queued);
-    }
-    if is_text(word, b"kept") {
-        return Some(Verb::Kept);
-    }
-    if is_text(word, b"waiting") {
-        return Some(Verb::Waiting);
-    }
-    None
-}
-
-pub fn verb_of(word: &[u8]) -> Option<Verb>
-    ensures { result ≡ verb_of word.now }
-{
-    if let Some(verb) = source_verb(word) {
-        return Some(verb);
-    }
-    if let Some(verb) = subscription_verb(word) {
-        return Some(verb);
-    }
-    if let Some(verb) = item_verb(word) {
-        return Some(verb);
-    }
-    message_verb(word)
 }

@@ -9,6 +9,7 @@ use Rattle.subscriptions.specs.declared.figures.Phase.TheVariants.{Fresh, Quiet,
 use Rattle.subscriptions.specs.Facts.{prompt, live, Timely, Counted}
 use Rattle.subscriptions.specs.Revision.{revision, notification_limit}
 use Rattle.subscriptions.specs.Changes.{created, modified, publishing, named, following, number_used, served_last, standing, messaged, late_from, joined, runs, counted_down}
+use Rattle.subscriptions.specs.declared.parameters.SubscriptionParameters.{SubscriptionParameters}
 use Rattle.model.specs.Sound.{Bounded}
 
 -- the revised figures are within their bounds
@@ -29,10 +30,10 @@ limit_bounds m = at (eqb m 0) refl
     at true e = (omega arith, omega arith)
     at false e = let n = eqb-false m 0 e in (omega (arith, n), omega arith)
 
-pub revision_bounds : (ms : ℤ) (k l m : ℕ) → WithinBounds (revision ms k l m)
-revision_bounds ms k l m =
-    let t = ticks_bounds ms in
-    let n = limit_bounds m in
+pub revision_bounds : (p : SubscriptionParameters) → WithinBounds (revision p)
+revision_bounds p =
+    let t = ticks_bounds p.milliseconds in
+    let n = limit_bounds p.limit in
     (t.0, t.1, omega arith, omega arith, omega arith, omega arith, n.0, n.1)
 
 pub created_bounded : (id : ℕ) (r : Revised) (enabled : Bool) → WithinBounds r → Bounded (created id r enabled)

@@ -1,13 +1,10 @@
 -- Each call by its cases.
-use Rattle.std.proofs.Common.{◌≡◌, ℕ, ◌<◌, ◌≤◌, Bool, true, false, cond, eqb, ltb, List, [], ◌∷◌, length, ℤ, Some, None, Ok, Err, Option, Result, sym, refl, ap, ◌∙◌, arith}
+use Rattle.std.proofs.Common.{◌≡◌, ℕ, ◌<◌, ◌≤◌, Bool, true, false, cond, eqb, ltb, List, [], ◌∷◌, length, Some, None, Ok, Err, Option, Result, sym, refl, ap, ◌∙◌, arith}
 use Rattle.std.proofs.lemmas.Bool.{eqb-true, eqb-false, ltb-true, ltb-false}
 use Rattle.fifo.specs.Lists.{none, first, lookup, replaced, without}
-use Rattle.values.specs.declared.value.Kind.{Kind}
-use Rattle.values.specs.declared.value.Sample.{Sample}
 use Rattle.values.specs.declared.checked.CheckedFilter.{CheckedFilter}
 use Rattle.values.specs.Check.{checked}
 use Rattle.sources.specs.declared.source.Standing.{Standing}
-use Rattle.sources.specs.declared.source.Standing.TheVariants.{Unknown, Known}
 use Rattle.subscriptions.specs.declared.figures.Figures.{Figures}
 use Rattle.subscriptions.specs.Facts.{live}
 use Rattle.subscriptions.specs.Keys.{id_of}
@@ -30,6 +27,11 @@ use Rattle.retransmission.specs.Rows.{kept_of}
 use Rattle.answers.specs.declared.fault.ServiceFault.TheVariants.{MessageNotAvailable, ListTooShort, TooManySubscriptions, TooManyMonitoredItems, IdsUsedUp, NodeIdUnknown, SubscriptionIdInvalid, TooManyOperations}
 use Rattle.answers.specs.declared.fault.ServiceFault.TheVariants as fault
 use Rattle.answers.specs.declared.acknowledgement.Acknowledgement.{Acknowledgement}
+use Rattle.subscriptions.specs.declared.parameters.SubscriptionParameters.{SubscriptionParameters}
+use Rattle.subscriptions.specs.declared.parameters.RevisedSubscription.{RevisedSubscription}
+use Rattle.model.specs.declared.revised.CreatedSubscription.{CreatedSubscription}
+use Rattle.model.specs.declared.revised.RevisedItem.{RevisedItem}
+use Rattle.model.specs.declared.revised.CreatedItem.{CreatedItem}
 use Rattle.model.specs.declared.parameters.MonitoringParameters.{MonitoringParameters}
 use Rattle.model.specs.State.{State, live_in, only_live, with_subscriptions, with_items}
 use Rattle.model.specs.Steps.{Step, refused, answers, sends, for_live, for_item, for_checked}
@@ -53,35 +55,35 @@ live_found id fs f e = at (lookup id_of id fs) e
     at None e = absurd (none_some e)
     at (Some g) e = lives (live g.phase) g refl e
 
-pub data CreatingSubscription (s : State) (ms : ℤ) (k l m : ℕ) (enabled : Bool) : Step (ℕ × ℕ × ℕ × ℕ) → Type 0 where
-  full : length s.subscriptions ≡ 4 → CreatingSubscription s ms k l m enabled (refused s TooManySubscriptions)
-  used_up : 4294967295 < s.next → CreatingSubscription s ms k l m enabled (refused s IdsUsedUp)
-  made : (length s.subscriptions ≡ 4 → ⊥) → s.next ≤ 4294967295 → CreatingSubscription s ms k l m enabled (creates s (created s.next (revision ms k l m) enabled))
+pub data CreatingSubscription (s : State) (p : SubscriptionParameters) (enabled : Bool) : Step CreatedSubscription → Type 0 where
+  full : length s.subscriptions ≡ 4 → CreatingSubscription s p enabled (refused s TooManySubscriptions)
+  used_up : 4294967295 < s.next → CreatingSubscription s p enabled (refused s IdsUsedUp)
+  made : (length s.subscriptions ≡ 4 → ⊥) → s.next ≤ 4294967295 → CreatingSubscription s p enabled (creates s (created s.next (revision p) enabled))
 
-pub creating_subscription : (s : State) (ms : ℤ) (k l m : ℕ) (enabled : Bool) → CreatingSubscription s ms k l m enabled (create_subscription s ms k l m enabled)
-creating_subscription s ms k l m enabled = at (eqb (length s.subscriptions) 4) refl
+pub creating_subscription : (s : State) (p : SubscriptionParameters) (enabled : Bool) → CreatingSubscription s p enabled (create_subscription s p enabled)
+creating_subscription s p enabled = at (eqb (length s.subscriptions) 4) refl
   where
-    step : Step (ℕ × ℕ × ℕ × ℕ)
-    step = creates s (created s.next (revision ms k l m) enabled)
+    step : Step CreatedSubscription
+    step = creates s (created s.next (revision p) enabled)
 
-    given : (b : Bool) → ltb 4294967295 s.next ≡ b → (length s.subscriptions ≡ 4 → ⊥) → CreatingSubscription s ms k l m enabled (cond b (refused s IdsUsedUp) step)
+    given : (b : Bool) → ltb 4294967295 s.next ≡ b → (length s.subscriptions ≡ 4 → ⊥) → CreatingSubscription s p enabled (cond b (refused s IdsUsedUp) step)
     given true e n = used_up (ltb-true 4294967295 s.next e)
     given false e n = made n (ltb-false 4294967295 s.next e)
 
-    at : (b : Bool) → eqb (length s.subscriptions) 4 ≡ b → CreatingSubscription s ms k l m enabled (cond b (refused s TooManySubscriptions) (cond (ltb 4294967295 s.next) (refused s IdsUsedUp) step))
+    at : (b : Bool) → eqb (length s.subscriptions) 4 ≡ b → CreatingSubscription s p enabled (cond b (refused s TooManySubscriptions) (cond (ltb 4294967295 s.next) (refused s IdsUsedUp) step))
     at true e = full (eqb-true (length s.subscriptions) 4 e)
     at false e = given (ltb 4294967295 s.next) refl (eqb-false (length s.subscriptions) 4 e)
 
-pub data ModifyingSubscription (s : State) (id : ℕ) (ms : ℤ) (k l m : ℕ) : Step (ℕ × ℕ × ℕ) → Type 0 where
-  unknown : live_in id s.subscriptions ≡ None → ModifyingSubscription s id ms k l m (refused s (SubscriptionIdInvalid id))
+pub data ModifyingSubscription (s : State) (id : ℕ) (p : SubscriptionParameters) : Step RevisedSubscription → Type 0 where
+  unknown : live_in id s.subscriptions ≡ None → ModifyingSubscription s id p (refused s (SubscriptionIdInvalid id))
   modifies : (f : Figures) → live_in id s.subscriptions ≡ Some f →
-      ModifyingSubscription s id ms k l m (answers (with_subscriptions s (replaced id_of (modified (revision ms k l m) f) s.subscriptions)) (answer_of (revision ms k l m)) [])
+      ModifyingSubscription s id p (answers (with_subscriptions s (replaced id_of (modified (revision p) f) s.subscriptions)) (answer_of (revision p)) [])
 
-pub modifying_subscription : (s : State) (id : ℕ) (ms : ℤ) (k l m : ℕ) → ModifyingSubscription s id ms k l m (modify_subscription s id ms k l m)
-modifying_subscription s id ms k l m = at (live_in id s.subscriptions) refl
+pub modifying_subscription : (s : State) (id : ℕ) (p : SubscriptionParameters) → ModifyingSubscription s id p (modify_subscription s id p)
+modifying_subscription s id p = at (live_in id s.subscriptions) refl
   where
     at : (o : Option Figures) → live_in id s.subscriptions ≡ o →
-        ModifyingSubscription s id ms k l m (for_live o s id (λ f. answers (with_subscriptions s (replaced id_of (modified (revision ms k l m) f) s.subscriptions)) (answer_of (revision ms k l m)) []))
+        ModifyingSubscription s id p (for_live o s id (λ f. answers (with_subscriptions s (replaced id_of (modified (revision p) f) s.subscriptions)) (answer_of (revision p)) []))
     at None e = unknown e
     at (Some f) e = modifies f e
 
@@ -119,29 +121,29 @@ deleting_subscription s id room = at (ltb room 8) refl
     at true r = short (ltb-true room 8 r)
     at false r = found (live_in id s.subscriptions) refl
 
-pub data CreatingItem (stands : ℕ → Standing) (s : State) (id node mode : ℕ) (p : MonitoringParameters) : Step (ℕ × ℕ × ℕ) → Type 0 where
+pub data CreatingItem (stands : ℕ → Option Standing) (s : State) (id node mode : ℕ) (p : MonitoringParameters) : Step CreatedItem → Type 0 where
   unknown : live_in id s.subscriptions ≡ None → CreatingItem stands s id node mode p (refused s (SubscriptionIdInvalid id))
   full : length s.items ≡ 32 → CreatingItem stands s id node mode p (refused s TooManyMonitoredItems)
   used_up : 4294967295 < s.next → CreatingItem stands s id node mode p (refused s IdsUsedUp)
-  no_node : stands node ≡ Unknown → CreatingItem stands s id node mode p (refused s (NodeIdUnknown node))
-  bad : (kind : Kind) (sample : Sample) (e : ItemFault) → stands node ≡ Known kind sample → checked_item mode p.filter kind node ≡ Err e → CreatingItem stands s id node mode p (refused s (fault.Item e))
-  adds : (f : Figures) (kind : Kind) (sample : Sample) (checks : Mode × CheckedFilter) →
-      live_in id s.subscriptions ≡ Some f → (length s.items ≡ 32 → ⊥) → s.next ≤ 4294967295 → stands node ≡ Known kind sample → checked_item mode p.filter kind node ≡ Ok checks →
-      CreatingItem stands s id node mode p (adding s f (new_item s f id node p kind checks))
+  no_node : stands node ≡ None → CreatingItem stands s id node mode p (refused s (NodeIdUnknown node))
+  bad : (shown : Standing) (e : ItemFault) → stands node ≡ Some shown → checked_item mode p.filter shown.kind node ≡ Err e → CreatingItem stands s id node mode p (refused s (fault.Item e))
+  adds : (f : Figures) (shown : Standing) (checks : Mode × CheckedFilter) →
+      live_in id s.subscriptions ≡ Some f → (length s.items ≡ 32 → ⊥) → s.next ≤ 4294967295 → stands node ≡ Some shown → checked_item mode p.filter shown.kind node ≡ Ok checks →
+      CreatingItem stands s id node mode p (adding s f (new_item s f id node p shown.kind checks))
 
-module _ (stands : ℕ → Standing) (s : State) (id node mode : ℕ) (p : MonitoringParameters) where
+module _ (stands : ℕ → Option Standing) (s : State) (id node mode : ℕ) (p : MonitoringParameters) where
   pub creating_item : CreatingItem stands s id node mode p (create_item stands s id node mode p)
   creating_item = found (live_in id s.subscriptions) refl
     where
-      check : (f : Figures) (kind : Kind) (sample : Sample) → live_in id s.subscriptions ≡ Some f → (length s.items ≡ 32 → ⊥) → s.next ≤ 4294967295 → stands node ≡ Known kind sample →
-          (r : Result (Mode × CheckedFilter) ItemFault) → checked_item mode p.filter kind node ≡ r → CreatingItem stands s id node mode p (for_checked r s (λ checks. adding s f (new_item s f id node p kind checks)))
-      check f kind sample e n l k (Err x) c = bad kind sample x k c
-      check f kind sample e n l k (Ok checks) c = adds f kind sample checks e n l k c
+      check : (f : Figures) (shown : Standing) → live_in id s.subscriptions ≡ Some f → (length s.items ≡ 32 → ⊥) → s.next ≤ 4294967295 → stands node ≡ Some shown →
+          (r : Result (Mode × CheckedFilter) ItemFault) → checked_item mode p.filter shown.kind node ≡ r → CreatingItem stands s id node mode p (for_checked r s (λ checks. adding s f (new_item s f id node p shown.kind checks)))
+      check f shown e n l k (Err x) c = bad shown x k c
+      check f shown e n l k (Ok checks) c = adds f shown checks e n l k c
 
-      known : (f : Figures) → live_in id s.subscriptions ≡ Some f → (length s.items ≡ 32 → ⊥) → s.next ≤ 4294967295 → (t : Standing) → stands node ≡ t →
+      known : (f : Figures) → live_in id s.subscriptions ≡ Some f → (length s.items ≡ 32 → ⊥) → s.next ≤ 4294967295 → (t : Option Standing) → stands node ≡ t →
           CreatingItem stands s id node mode p (for_known t s node (λ kind. for_checked (checked_item mode p.filter kind node) s (λ checks. adding s f (new_item s f id node p kind checks))))
-      known f e n l Unknown k = no_node k
-      known f e n l (Known kind sample) k = check f kind sample e n l k (checked_item mode p.filter kind node) refl
+      known f e n l None k = no_node k
+      known f e n l (Some shown) k = check f shown e n l k (checked_item mode p.filter shown.kind node) refl
 
       given : (f : Figures) → live_in id s.subscriptions ≡ Some f → (length s.items ≡ 32 → ⊥) → (b : Bool) → ltb 4294967295 s.next ≡ b →
           CreatingItem stands s id node mode p (cond b (refused s IdsUsedUp)
@@ -161,7 +163,7 @@ module _ (stands : ℕ → Standing) (s : State) (id node mode : ℕ) (p : Monit
       found None e = unknown e
       found (Some f) e = room f e (eqb (length s.items) 32) refl
 
-pub data ModifyingItem (s : State) (id item : ℕ) (p : MonitoringParameters) : Step (ℕ × ℕ) → Type 0 where
+pub data ModifyingItem (s : State) (id item : ℕ) (p : MonitoringParameters) : Step RevisedItem → Type 0 where
   unknown : live_in id s.subscriptions ≡ None → ModifyingItem s id item p (refused s (SubscriptionIdInvalid id))
   no_item : item_in id item s.items ≡ None → ModifyingItem s id item p (refused s (fault.Item (MonitoredItemIdInvalid item)))
   bad : (x : Item) (e : ItemFault) → item_in id item s.items ≡ Some x → of_item (checked p.filter x.identity.kind item) ≡ Err e → ModifyingItem s id item p (refused s (fault.Item e))
@@ -329,11 +331,11 @@ republishing s id n = at (live_in id s.subscriptions) refl
     at None e = unknown e
     at (Some f) e = found f e (lookup number_of n (kept_of id s.kept)) refl
 
-pub data Ticking (stands : ℕ → Standing) (s : State) (room : ℕ) : Step ℕ → Type 0 where
+pub data Ticking (stands : ℕ → Option Standing) (s : State) (room : ℕ) : Step ℕ → Type 0 where
   short : room < 8 → Ticking stands s room (refused s ListTooShort)
   passes_all_lem : Ticking stands s room (ticked_by (samplings stands s.items) s (passed (sampled_state stands s)))
 
-pub ticking : (stands : ℕ → Standing) (s : State) (room : ℕ) → Ticking stands s room (tick stands s room)
+pub ticking : (stands : ℕ → Option Standing) (s : State) (room : ℕ) → Ticking stands s room (tick stands s room)
 ticking stands s room = at (ltb room 8) refl
   where
     at : (b : Bool) → ltb room 8 ≡ b → Ticking stands s room (cond b (refused s ListTooShort) (ticked_by (samplings stands s.items) s (passed (sampled_state stands s))))

@@ -1,5 +1,5 @@
 -- What holds of each item, and that the changes of an item keep it.
-use Rattle.std.proofs.Common.{ℕ, ◌-◌, ◌<◌, Bool, true, false, cond, leb, List, Some, refl, ◌∙◌, inl, inr, arith}
+use Rattle.std.proofs.Common.{ℕ, ◌-◌, ◌<◌, Bool, true, false, cond, leb, List, Some, refl, ◌∙◌, inl, inr, arith, Option}
 use Rattle.values.specs.declared.value.Sample.{Sample}
 use Rattle.sources.specs.declared.source.Standing.{Standing}
 use Rattle.sources.specs.Standings.{sample_of}
@@ -57,7 +57,7 @@ module _ (n : ℕ) (ids : List ℕ) where
       )
       at false = g
 
-  pub good_ticked : (stands : ℕ → Standing) (x : Item) → Good n ids x → Good n ids (ticked stands x)
+  pub good_ticked : (stands : ℕ → Option Standing) (x : Item) → Good n ids x → Good n ids (ticked stands x)
   good_ticked stands x g = mode x.mode
     where
       at : (b : Bool) → Good n ids (cond b (offered (counting x x.settings.interval) (sample_of (stands x.identity.node))) (counting x (x.countdown - 1)))

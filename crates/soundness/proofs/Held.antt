@@ -64,7 +64,7 @@ module _ (n : ℕ) (ids : List ℕ) (xs : List Item) (h : Items n ids xs) where
       stays : (x : Item) → Good n ids x → not (belongs id x) ≡ true → Good n (drops id ids) x
       stays x g e = (g.0, in_without x.identity.subscription id ids (eqb-false x.identity.subscription id (not-true (belongs id x) e)) g.1, g.2, g.3)
 
-  pub items_ticked : (stands : ℕ → Standing) → Items n ids (map (ticked stands) xs)
+  pub items_ticked : (stands : ℕ → Option Standing) → Items n ids (map (ticked stands) xs)
   items_ticked stands =
       record {
         few = let l = length-map xs (ticked stands) in let f = h.few in omega arith;

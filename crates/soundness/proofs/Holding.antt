@@ -1,5 +1,5 @@
 -- Every call keeps the items and the kept messages of the live subscriptions.
-use Rattle.std.proofs.Common.{◌≡◌, ℕ, ◌+◌, Bool, true, false, cond, eqb, ltb, List, [], ◌∷◌, ◌++◌, length, ℤ, Some, None, Ok, Err, Option, Result, sym, refl, ◌∙◌, subst, arith}
+use Rattle.std.proofs.Common.{◌≡◌, ℕ, ◌+◌, Bool, true, false, cond, eqb, ltb, List, [], ◌∷◌, ◌++◌, length, Some, None, Ok, Err, Option, Result, sym, refl, ◌∙◌, subst, arith}
 use Rattle.std.specs.List.{AllByRecursion}
 use Rattle.std.proofs.ByRecursion.{All-weaker}
 use Rattle.std.proofs.lemmas.Bool.{eqb-false}
@@ -8,7 +8,6 @@ use Rattle.values.specs.declared.value.Kind.{Kind}
 use Rattle.values.specs.declared.checked.CheckedFilter.{CheckedFilter}
 use Rattle.values.specs.Check.{checked}
 use Rattle.sources.specs.declared.source.Standing.{Standing}
-use Rattle.sources.specs.declared.source.Standing.TheVariants.{Unknown, Known}
 use Rattle.subscriptions.specs.declared.figures.Figures.{Figures}
 use Rattle.subscriptions.specs.Facts.{live}
 use Rattle.subscriptions.specs.Keys.{id_of}
@@ -29,6 +28,7 @@ use Rattle.retransmission.specs.Rows.{Kept, kept_of}
 use Rattle.answers.specs.declared.fault.ServiceFault.{ServiceFault}
 use Rattle.answers.specs.declared.fault.ServiceFault.TheVariants.{ListTooShort, TooManySubscriptions, TooManyMonitoredItems, TooManyOperations, IdsUsedUp}
 use Rattle.answers.specs.declared.acknowledgement.Acknowledgement.{Acknowledgement}
+use Rattle.subscriptions.specs.declared.parameters.SubscriptionParameters.{SubscriptionParameters}
 use Rattle.model.specs.declared.parameters.MonitoringParameters.{MonitoringParameters}
 use Rattle.model.specs.State.{State, new_state, live_in}
 use Rattle.model.specs.Steps.{Step, refused, sends, for_live, for_item, for_checked}
@@ -65,9 +65,9 @@ module _ {X : Type 0} (P : State → Type 0) (s : State) (h : P s) where
   by_check (Err e) step k = h
   by_check (Ok y) step k = k y
 
-  pub by_known : (o : Standing) (node : ℕ) (step : Kind → Step X) → ((kind : Kind) → P (step kind).state) → P (for_known o s node step).state
-  by_known Unknown node step k = h
-  by_known (Known kind sample) node step k = k kind
+  pub by_known : (o : Option Standing) (node : ℕ) (step : Kind → Step X) → ((kind : Kind) → P (step kind).state) → P (for_known o s node step).state
+  by_known None node step k = h
+  by_known (Some t) node step k = k t.kind
 
   pub by_message : (o : Option Message) (n : ℕ) (step : Message → Step X) → ((m : Message) → o ≡ Some m → P (step m).state) → P (for_message o s n step).state
   by_message None n step k = h
@@ -87,8 +87,8 @@ module _ (s : State) (sound : Sound s) where
   ids_kept : (id : ℕ) (f g : Figures) → live_in id s.subscriptions ≡ Some f → g.id ≡ f.id → alive g ≡ alive f → live_ids (replaced id_of g s.subscriptions) ≡ live_ids s.subscriptions
   ids_kept id f g e i a = live_replaced id g s.subscriptions f (live_found id s.subscriptions f e).0 i a
 
-  pub held_create_subscription : (ms : ℤ) (k l m : ℕ) (enabled : Bool) → HeldBy (create_subscription s ms k l m enabled).state
-  held_create_subscription ms k l m enabled =
+  pub held_create_subscription : (p : SubscriptionParameters) (enabled : Bool) → HeldBy (create_subscription s p enabled).state
+  held_create_subscription p enabled =
       by_test HeldBy s now (eqb (length s.subscriptions) 4) TooManySubscriptions _ (λ e.
       by_test HeldBy s now (ltb 4294967295 s.next) IdsUsedUp _ (λ _. made (eqb-false (length s.subscriptions) 4 e)))
     where
@@ -96,7 +96,7 @@ module _ (s : State) (sound : Sound s) where
       ids = live_ids s.subscriptions
 
       f : Figures
-      f = created s.next (revision ms k l m) enabled
+      f = created s.next (revision p) enabled
 
       made : (length s.subscriptions ≡ 4 → ⊥) → HeldBy (creates s f).state
       made n =
@@ -108,10 +108,10 @@ module _ (s : State) (sound : Sound s) where
             rows = rows_opening ids s.kept s.next (omega arith) now.rows;
           })
 
-  pub held_modify_subscription : (id : ℕ) (ms : ℤ) (k l m : ℕ) → HeldBy (modify_subscription s id ms k l m).state
-  held_modify_subscription id ms k l m =
+  pub held_modify_subscription : (id : ℕ) (p : SubscriptionParameters) → HeldBy (modify_subscription s id p).state
+  held_modify_subscription id p =
       by_live HeldBy s now (live_in id s.subscriptions) id _ (λ f e.
-      held_ids s.next (live_ids s.subscriptions) _ s.items s.kept (ids_kept id f (modified (revision ms k l m) f) e refl refl) now)
+      held_ids s.next (live_ids s.subscriptions) _ s.items s.kept (ids_kept id f (modified (revision p) f) e refl refl) now)
 
   pub held_publishing_mode : (id : ℕ) (enabled : Bool) → HeldBy (set_publishing_mode s id enabled).state
   held_publishing_mode id enabled =
@@ -143,7 +143,7 @@ module _ (s : State) (sound : Sound s) where
   named_items id f n xs e h =
       held_ids n (live_ids s.subscriptions) (live_ids (naming s f)) xs s.kept (ids_kept id f (named f) e refl refl) (record { items = h; rows = now.rows })
 
-  pub held_create_item : (stands : ℕ → Standing) (id node mode : ℕ) (p : MonitoringParameters) → HeldBy (create_item stands s id node mode p).state
+  pub held_create_item : (stands : ℕ → Option Standing) (id node mode : ℕ) (p : MonitoringParameters) → HeldBy (create_item stands s id node mode p).state
   held_create_item stands id node mode p =
       by_live HeldBy s now (live_in id s.subscriptions) id _ (λ f e.
       by_test HeldBy s now (eqb (length s.items) 32) TooManyMonitoredItems _ (λ full.
@@ -185,7 +185,7 @@ module _ (s : State) (sound : Sound s) where
       (good_moded s.next (live_ids s.subscriptions) x m
       (item_good s.next (live_ids s.subscriptions) s.items now.items k x (item_found id k s.items x found)))))))
 
-  pub held_tick : (stands : ℕ → Standing) (room : ℕ) → HeldBy (tick stands s room).state
+  pub held_tick : (stands : ℕ → Option Standing) (room : ℕ) → HeldBy (tick stands s room).state
   held_tick stands room =
       by_test HeldBy s now (ltb room 8) ListTooShort (ticked_by (samplings stands s.items) s (passed (sampled_state stands s))) (λ _.
       passed_held s.next 0 [] s.subscriptions _ tt sound.published.rising limits

@@ -1,7 +1,8 @@
 -- Every call keeps the state sound.
-use Rattle.std.proofs.Common.{ℕ, Bool, List, ℤ}
+use Rattle.std.proofs.Common.{ℕ, Bool, List, Option}
 use Rattle.sources.specs.declared.source.Standing.{Standing}
 use Rattle.answers.specs.declared.acknowledgement.Acknowledgement.{Acknowledgement}
+use Rattle.subscriptions.specs.declared.parameters.SubscriptionParameters.{SubscriptionParameters}
 use Rattle.model.specs.declared.parameters.MonitoringParameters.{MonitoringParameters}
 use Rattle.model.specs.State.{State, new_state}
 use Rattle.model.specs.Subscribing.{create_subscription, modify_subscription, set_publishing_mode, delete_subscription}
@@ -18,13 +19,13 @@ pub sound_new : (first : ℕ) → Sound (new_state first)
 sound_new first = record { published = published_new first; monitored = monitored_new first; retained = retained_new first }
 
 module _ (s : State) (h : Sound s) where
-  pub sound_create_subscription : (ms : ℤ) (k l m : ℕ) (enabled : Bool) → Sound (create_subscription s ms k l m enabled).state
-  sound_create_subscription ms k l m enabled =
-      record { published = published_create_subscription s ms k l m enabled h.published; monitored = monitored_create_subscription s ms k l m enabled h; retained = retained_create_subscription s ms k l m enabled h }
+  pub sound_create_subscription : (p : SubscriptionParameters) (enabled : Bool) → Sound (create_subscription s p enabled).state
+  sound_create_subscription p enabled =
+      record { published = published_create_subscription s p enabled h.published; monitored = monitored_create_subscription s p enabled h; retained = retained_create_subscription s p enabled h }
 
-  pub sound_modify_subscription : (id : ℕ) (ms : ℤ) (k l m : ℕ) → Sound (modify_subscription s id ms k l m).state
-  sound_modify_subscription id ms k l m =
-      record { published = published_modify_subscription s id ms k l m h.published; monitored = monitored_modify_subscription s id ms k l m h; retained = retained_modify_subscription s id ms k l m h }
+  pub sound_modify_subscription : (id : ℕ) (p : SubscriptionParameters) → Sound (modify_subscription s id p).state
+  sound_modify_subscription id p =
+      record { published = published_modify_subscription s id p h.published; monitored = monitored_modify_subscription s id p h; retained = retained_modify_subscription s id p h }
 
   pub sound_set_publishing_mode : (id : ℕ) (enabled : Bool) → Sound (set_publishing_mode s id enabled).state
   sound_set_publishing_mode id enabled =
@@ -34,7 +35,7 @@ module _ (s : State) (h : Sound s) where
   sound_delete_subscription id room =
       record { published = published_delete_subscription s id room h.published; monitored = monitored_delete_subscription s id room h; retained = retained_delete_subscription s id room h }
 
-  pub sound_create_item : (stands : ℕ → Standing) (id node mode : ℕ) (p : MonitoringParameters) → Sound (create_item stands s id node mode p).state
+  pub sound_create_item : (stands : ℕ → Option Standing) (id node mode : ℕ) (p : MonitoringParameters) → Sound (create_item stands s id node mode p).state
   sound_create_item stands id node mode p =
       record { published = published_create_item stands s id node mode p h.published; monitored = monitored_create_item stands s id node mode p h; retained = retained_create_item stands s id node mode p h }
 
@@ -58,6 +59,6 @@ module _ (s : State) (h : Sound s) where
   sound_republish id n =
       record { published = published_republish s id n h.published; monitored = monitored_republish s id n h; retained = retained_republish s id n h }
 
-  pub sound_tick : (stands : ℕ → Standing) (room : ℕ) → Sound (tick stands s room).state
+  pub sound_tick : (stands : ℕ → Option Standing) (room : ℕ) → Sound (tick stands s room).state
   sound_tick stands room =
       record { published = published_tick stands s room h.published; monitored = monitored_tick stands s room h; retained = retained_tick stands s room h }

@@ -1,5 +1,5 @@
 -- Every step keeps what holds of the subscriptions, the requests and the late list.
-use Rattle.std.proofs.Common.{◌≡◌, ℕ, suc, ◌+◌, ◌<◌, ◌≤◌, Bool, true, ◌⊎◌, List, [], ◌∷◌, ◌++◌, map, length, ℤ, Some, None, Option, sym, refl, ap, ◌∙◌, subst, inl, inr, arith}
+use Rattle.std.proofs.Common.{◌≡◌, ℕ, suc, ◌+◌, ◌<◌, ◌≤◌, Bool, true, ◌⊎◌, List, [], ◌∷◌, ◌++◌, map, length, Some, None, Option, sym, refl, ap, ◌∙◌, subst, inl, inr, arith}
 use Rattle.std.specs.List.{AllByRecursion}
 use Rattle.std.proofs.lemmas.List.{length-map, length_push, length-append, map_push}
 use Rattle.std.proofs.ByRecursion.{All-weaker, All-push, All-map}
@@ -17,6 +17,11 @@ use Rattle.item_table.proofs.Orders.{rising_replaced, rising_without}
 use Rattle.messages.specs.declared.message.Message.{Message}
 use Rattle.retransmission.specs.Rows.{Kept}
 use Rattle.answers.specs.declared.acknowledgement.Acknowledgement.{Acknowledgement}
+use Rattle.subscriptions.specs.declared.parameters.SubscriptionParameters.{SubscriptionParameters}
+use Rattle.subscriptions.specs.declared.parameters.RevisedSubscription.{RevisedSubscription}
+use Rattle.model.specs.declared.revised.CreatedSubscription.{CreatedSubscription}
+use Rattle.model.specs.declared.revised.RevisedItem.{RevisedItem}
+use Rattle.model.specs.declared.revised.CreatedItem.{CreatedItem}
 use Rattle.model.specs.declared.parameters.MonitoringParameters.{MonitoringParameters}
 use Rattle.model.specs.State.{State, new_state, live_in}
 use Rattle.model.specs.Steps.{Step}
@@ -160,19 +165,19 @@ published_without s h id hs late xs kept once fewer out others late-none none-as
     }
 
 module _ (s : State) (h : Published s) where
-  pub create_kept : (ms : ℤ) (k l m : ℕ) (enabled : Bool) (t : Step (ℕ × ℕ × ℕ × ℕ)) → cases.CreatingSubscription s ms k l m enabled t → Published t.state
-  create_kept ms k l m enabled t (cases.full e) = h
-  create_kept ms k l m enabled t (cases.used_up u) = h
-  create_kept ms k l m enabled t (cases.made n u) =
+  pub create_kept : (p : SubscriptionParameters) (enabled : Bool) (t : Step CreatedSubscription) → cases.CreatingSubscription s p enabled t → Published t.state
+  create_kept p enabled t (cases.full e) = h
+  create_kept p enabled t (cases.used_up u) = h
+  create_kept p enabled t (cases.made n u) =
       let fs = s.subscriptions in
-      let f : Figures = created s.next (revision ms k l m) enabled in
+      let f : Figures = created s.next (revision p) enabled in
       let ks = map_push id_of fs f in
       let o = below_out id_of s.next fs h.below in
       record {
         few = let z = length_push fs f in let y = h.few in omega (arith, n);
         rising = rising_last id_of 0 f fs h.rising (let g = h.given in omega arith) h.below;
         below = All-push (λ g. g.id < s.next + 1) fs f (All-weaker (λ g. g.id < s.next) (λ g. g.id < s.next + 1) (λ g z. omega arith) fs h.below) (omega arith);
-        bounded = All-push Bounded fs f h.bounded (created_bounded s.next (revision ms k l m) enabled (revision_bounds ms k l m));
+        bounded = All-push Bounded fs f h.bounded (created_bounded s.next (revision p) enabled (revision_bounds p));
         once = h.once;
         known = λ j x. subst (In j) (sym ks) (in_left j (map id_of fs) (s.next ∷ []) (h.known j x));
         placed = All-push (Placed s.late) fs f h.placed ((λ z x. o (h.known s.next x)), (λ z. absurd (true≢false z)), (λ z. absurd (true≢false z)));
@@ -182,10 +187,10 @@ module _ (s : State) (h : Published s) where
         given = omega arith;
       }
 
-  pub modify_kept : (id : ℕ) (ms : ℤ) (k l m : ℕ) (t : Step (ℕ × ℕ × ℕ)) → cases.ModifyingSubscription s id ms k l m t → Published t.state
-  modify_kept id ms k l m t (cases.unknown e) = h
-  modify_kept id ms k l m t (cases.modifies f e) =
-      published_live s h id f e (modified (revision ms k l m) f) refl refl (modified_bounded (revision ms k l m) f (revision_bounds ms k l m) (live_bounded s h id f e)) s.items s.kept
+  pub modify_kept : (id : ℕ) (p : SubscriptionParameters) (t : Step RevisedSubscription) → cases.ModifyingSubscription s id p t → Published t.state
+  modify_kept id p t (cases.unknown e) = h
+  modify_kept id p t (cases.modifies f e) =
+      published_live s h id f e (modified (revision p) f) refl refl (modified_bounded (revision p) f (revision_bounds p) (live_bounded s h id f e)) s.items s.kept
 
   pub enable_kept : (id : ℕ) (enabled : Bool) (t : Step (Unit {0})) → cases.SettingPublishing s id enabled t → Published t.state
   enable_kept id enabled t (cases.unknown e) = h
@@ -204,16 +209,16 @@ module _ (s : State) (h : Published s) where
   delete_kept id room t (cases.last f e n) = drop_kept id [] _ _ (λ z. refl) (λ z. refl) (omega arith)
   delete_kept id room t (cases.one f e n) = drop_kept id s.requests _ _ (λ z. z) (λ z. absurd (true≢false (sym z ∙ n))) h.queued
 
-  pub create_item_kept : (stands : ℕ → Standing) (id node mode : ℕ) (p : MonitoringParameters) (t : Step (ℕ × ℕ × ℕ)) → cases.CreatingItem stands s id node mode p t → Published t.state
+  pub create_item_kept : (stands : ℕ → Option Standing) (id node mode : ℕ) (p : MonitoringParameters) (t : Step CreatedItem) → cases.CreatingItem stands s id node mode p t → Published t.state
   create_item_kept stands id node mode p t (cases.unknown e) = h
   create_item_kept stands id node mode p t (cases.full e) = h
   create_item_kept stands id node mode p t (cases.used_up u) = h
   create_item_kept stands id node mode p t (cases.no_node e) = h
-  create_item_kept stands id node mode p t (cases.bad kind sample e k c) = h
-  create_item_kept stands id node mode p t (cases.adds f kind sample checks e n l k c) =
+  create_item_kept stands id node mode p t (cases.bad shown e k c) = h
+  create_item_kept stands id node mode p t (cases.adds f shown checks e n l k c) =
       published_beside _ (published_named s h id f e s.items s.kept) (s.next + 1) (omega arith) t.state.items s.kept
 
-  pub modify_item_kept : (id item : ℕ) (p : MonitoringParameters) (t : Step (ℕ × ℕ)) → cases.ModifyingItem s id item p t → Published t.state
+  pub modify_item_kept : (id item : ℕ) (p : MonitoringParameters) (t : Step RevisedItem) → cases.ModifyingItem s id item p t → Published t.state
   modify_item_kept id item p t (cases.unknown e) = h
   modify_item_kept id item p t (cases.no_item e) = h
   modify_item_kept id item p t (cases.bad x e i c) = h
@@ -235,11 +240,11 @@ module _ (s : State) (h : Published s) where
   republish_kept id n t (cases.no_message_lem e) = h
   republish_kept id n t (cases.republishes f m e k) = published_named s h id f e s.items s.kept
 
-pub published_create_subscription : (s : State) (ms : ℤ) (k l m : ℕ) (enabled : Bool) → Published s → Published (create_subscription s ms k l m enabled).state
-published_create_subscription s ms k l m enabled h = create_kept s h ms k l m enabled (create_subscription s ms k l m enabled) (cases.creating_subscription s ms k l m enabled)
+pub published_create_subscription : (s : State) (p : SubscriptionParameters) (enabled : Bool) → Published s → Published (create_subscription s p enabled).state
+published_create_subscription s p enabled h = create_kept s h p enabled (create_subscription s p enabled) (cases.creating_subscription s p enabled)
 
-pub published_modify_subscription : (s : State) (id : ℕ) (ms : ℤ) (k l m : ℕ) → Published s → Published (modify_subscription s id ms k l m).state
-published_modify_subscription s id ms k l m h = modify_kept s h id ms k l m (modify_subscription s id ms k l m) (cases.modifying_subscription s id ms k l m)
+pub published_modify_subscription : (s : State) (id : ℕ) (p : SubscriptionParameters) → Published s → Published (modify_subscription s id p).state
+published_modify_subscription s id p h = modify_kept s h id p (modify_subscription s id p) (cases.modifying_subscription s id p)
 
 pub published_set_publishing_mode : (s : State) (id : ℕ) (enabled : Bool) → Published s → Published (set_publishing_mode s id enabled).state
 published_set_publishing_mode s id enabled h = enable_kept s h id enabled (set_publishing_mode s id enabled) (cases.setting_publishing s id enabled)
@@ -247,7 +252,7 @@ published_set_publishing_mode s id enabled h = enable_kept s h id enabled (set_p
 pub published_delete_subscription : (s : State) (id room : ℕ) → Published s → Published (delete_subscription s id room).state
 published_delete_subscription s id room h = delete_kept s h id room (delete_subscription s id room) (cases.deleting_subscription s id room)
 
-pub published_create_item : (stands : ℕ → Standing) (s : State) (id node mode : ℕ) (p : MonitoringParameters) → Published s → Published (create_item stands s id node mode p).state
+pub published_create_item : (stands : ℕ → Option Standing) (s : State) (id node mode : ℕ) (p : MonitoringParameters) → Published s → Published (create_item stands s id node mode p).state
 published_create_item stands s id node mode p h = create_item_kept s h stands id node mode p (create_item stands s id node mode p) (cases.creating_item stands s id node mode p)
 
 pub published_modify_item : (s : State) (id item : ℕ) (p : MonitoringParameters) → Published s → Published (modify_item s id item p).state
@@ -381,7 +386,7 @@ pub published_publish : (s : State) (handle : ℕ) (acks : List Acknowledgement)
 published_publish s handle acks room places h = published_publishing s h handle acks room places (publish s handle acks room places) (cases.publishing_call s handle acks room places)
 
 -- the turns of a tick
-pub state_passed : (stands : ℕ → Standing) (s : State) → Published s → AllPassed s.subscriptions s.requests s.late (passed (sampled_state stands s))
+pub state_passed : (stands : ℕ → Option Standing) (s : State) → Published s → AllPassed s.subscriptions s.requests s.late (passed (sampled_state stands s))
 state_passed stands s h = all_passed s.subscriptions (shared_of (sampled_state stands s)) (ids_distinct s h) h.bounded h.once h.placed h.calm
 
 pub published_passed : (s : State) → Published s → (p : Pass) → AllPassed s.subscriptions s.requests s.late p → Published (leaves s p)
@@ -401,9 +406,9 @@ published_passed s h p r =
       given = h.given;
     }
 
-pub published_ticking : (stands : ℕ → Standing) (s : State) → Published s → (room : ℕ) (t : Step ℕ) → cases.Ticking stands s room t → Published t.state
+pub published_ticking : (stands : ℕ → Option Standing) (s : State) → Published s → (room : ℕ) (t : Step ℕ) → cases.Ticking stands s room t → Published t.state
 published_ticking stands s h room t (cases.short r) = h
 published_ticking stands s h room t cases.passes_all_lem = published_passed s h (passed (sampled_state stands s)) (state_passed stands s h)
 
-pub published_tick : (stands : ℕ → Standing) (s : State) (room : ℕ) → Published s → Published (tick stands s room).state
+pub published_tick : (stands : ℕ → Option Standing) (s : State) (room : ℕ) → Published s → Published (tick stands s room).state
 published_tick stands s room h = published_ticking stands s h room (tick stands s room) (cases.ticking stands s room)

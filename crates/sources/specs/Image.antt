@@ -1,31 +1,31 @@
 -- The process image as a list of rows.
-use Rattle.std.specs.Prelude.{◌≡◌, ℕ, cond, List, take, Some, None, Ok, Err, Option, Result, ◌==◌}
+use Rattle.std.specs.Prelude.{◌≡◌, ℕ, cond, List, Some, None, Ok, Err, Option, Result, ◌==◌}
 use Rattle.values.specs.declared.value.Kind.{Kind}
 use Rattle.values.specs.declared.value.Sample.{Sample}
 use Rattle.values.specs.Kinds.{kind_of, fitting}
 use Rattle.fifo.specs.Lists.{lookup}
+use Rattle.fifo.specs.Bounded.{items}
 use Rattle.sources.specs.declared.fault.SourceFault.{SourceFault}
 use Rattle.sources.specs.declared.fault.SourceFault.TheVariants.{TableFull, TypeMismatch}
 use Rattle.sources.specs.declared.rows.Row.{Row}
 use Rattle.sources.specs.declared.source.Standing.{Standing}
-use Rattle.sources.specs.declared.source.Standing.TheVariants.{Unknown, Known}
 use Rattle.sources.specs.declared.image.ProcessImage.{ProcessImage}
 use Rattle.sources.specs.Rows.{node_of_row}
 use Rattle.sources.specs.Table.{has_room, put}
 
 abbrev pub image_rows : ProcessImage → List Row
-image_rows s = take s.count s.rows
+image_rows s = items s.rows
 
 -- nothing has changed, places that are not in use included
 abbrev pub Unchanged : ProcessImage → ProcessImage → Type 0
-Unchanged s t = (t.rows ≡ s.rows) × (t.count ≡ s.count)
+Unchanged s t = t.rows ≡ s.rows
 
-abbrev pub standing_of_row : Option Row → Standing
-standing_of_row None = Unknown
-standing_of_row (Some r) = Known r.kind r.sample
+abbrev pub standing_of_row : Option Row → Option Standing
+standing_of_row None = None
+standing_of_row (Some r) = Some (record { kind = r.kind; sample = r.sample })
 
 -- the node's row
-abbrev pub image_stands : List Row → ℕ → Standing
+abbrev pub image_stands : List Row → ℕ → Option Standing
 image_stands rows n = standing_of_row (lookup node_of_row n rows)
 
 -- the kind with the code, where the value is empty or of that kind
@@ -52,10 +52,10 @@ rows_after f (Ok x) rows = put f x rows
 rows_after f (Err e) rows = rows
 
 -- the row's node stands at what the row says, every other as it was
-abbrev pub stands_with : Row → ℕ → Standing → Standing
-stands_with r n before = cond (r.node == n) (Known r.kind r.sample) before
+abbrev pub stands_with : Row → ℕ → Option Standing → Option Standing
+stands_with r n before = cond (r.node == n) (standing_of_row (Some r)) before
 
 -- what a node stands at after a write
-abbrev pub stands_after_write : Result Row SourceFault → ℕ → Standing → Standing
+abbrev pub stands_after_write : Result Row SourceFault → ℕ → Option Standing → Option Standing
 stands_after_write (Ok r) n before = stands_with r n before
 stands_after_write (Err e) n before = before

@@ -1,10 +1,10 @@
 -- Tables of rows: what a row put into one is found as, and what all rows pass.
-use Rattle.std.specs.Prelude.{◌≡◌, ℕ, suc, ◌<◌, ◌≤◌, Bool, true, false, cond, List, [], ◌∷◌, ◌++◌, length, is_some, Some, None, Option, ◌==◌, nat_lt, refl}
-use Rattle.std.proofs.Common.{sym, ap, ◌∙◌, arith, le-ltb, inl, inr}
+use Rattle.std.specs.Prelude.{◌≡◌, ℕ, suc, ◌<◌, Bool, true, false, cond, List, [], ◌∷◌, ◌++◌, length, is_some, Some, None, Option, ◌==◌, refl}
+use Rattle.std.proofs.Common.{set, sym, ap, ◌∙◌, arith}
 use Rattle.std.specs.Option.{option_map}
-use Rattle.std.proofs.lemmas.Bool.{cases_lt}
 use Rattle.std.proofs.lemmas.Bool.Decides.{nat_tests}
 use Rattle.fifo.specs.Lists.{position, lookup, replaced}
+use Rattle.fifo.proofs.Keys.{set_position, lookup_none}
 use Rattle.sources.specs.Table.{has_room, put, every}
 
 module _ {X : Type 0} (f : X → ℕ) where
@@ -16,23 +16,22 @@ module _ {X : Type 0} (f : X → ℕ) where
       at : lookup f k (put f y xs) ≡ cond (f y == k) (Some y) (lookup f k xs) → lookup f k (cond (f x == f y) (y ∷ xs) (x ∷ put f y xs)) ≡ cond (f y == k) (Some y) (cond (f x == k) (Some x) (lookup f k xs))
       at ih = grind (arith, nat_tests)
 
-  pub put_found : (y : X) (xs : List X) (i : ℕ) → position f (f y) xs ≡ Some i → put f y xs ≡ replaced f y xs
-  put_found y [] i e = absurd (let z : ◌≡◌ {A = ℕ} 0 1 = cc in omega arith)
-  put_found y (x ∷ xs) i e = at (f x == f y) (position f (f y) xs) e (put_found y xs)
+  -- a row put in takes the place of its node's row, or comes last
+  put_is : (y : X) (xs : List X) → put f y xs ≡ cond (is_some (position f (f y) xs)) (replaced f y xs) (xs ++ y ∷ [])
+  put_is y [] = refl
+  put_is y (x ∷ xs) = at (f x == f y) (position f (f y) xs) (put_is y xs)
     where
-      at : (b : Bool) (o : Option ℕ) → cond b (Some 0) (option_map suc o) ≡ Some i → ((j : ℕ) → o ≡ Some j → put f y xs ≡ replaced f y xs) → cond b (y ∷ xs) (x ∷ put f y xs) ≡ cond b (y ∷ xs) (x ∷ replaced f y xs)
-      at true o h ih = refl
-      at false None h ih = absurd (let z : ◌≡◌ {A = ℕ} 0 1 = cc in omega arith)
-      at false (Some j) h ih = ap (λ l. x ∷ l) (ih j refl)
+      at : (b : Bool) (o : Option ℕ) → put f y xs ≡ cond (is_some o) (replaced f y xs) (xs ++ y ∷ []) →
+          cond b (y ∷ xs) (x ∷ put f y xs) ≡ cond (is_some (cond b (Some 0) (option_map suc o))) (cond b (y ∷ xs) (x ∷ replaced f y xs)) (x ∷ (xs ++ y ∷ []))
+      at true o h = refl
+      at false None h = ap (λ l. x ∷ l) h
+      at false (Some j) h = ap (λ l. x ∷ l) h
 
-  pub put_new : (y : X) (xs : List X) → position f (f y) xs ≡ None → put f y xs ≡ xs ++ y ∷ []
-  put_new y [] e = refl
-  put_new y (x ∷ xs) e = at (f x == f y) (position f (f y) xs) e (put_new y xs)
-    where
-      at : (b : Bool) (o : Option ℕ) → cond b (Some 0) (option_map suc o) ≡ None → (o ≡ None → put f y xs ≡ xs ++ y ∷ []) → cond b (y ∷ xs) (x ∷ put f y xs) ≡ x ∷ (xs ++ y ∷ [])
-      at true o h ih = absurd (let z : ◌≡◌ {A = ℕ} 0 1 = cc in omega arith)
-      at false None h ih = ap (λ l. x ∷ l) (ih refl)
-      at false (Some j) h ih = absurd (let z : ◌≡◌ {A = ℕ} 0 1 = cc in omega arith)
+  pub put_at : (k i : ℕ) (y : X) (xs : List X) → k ≡ f y → position f k xs ≡ Some i → set xs i y ≡ put f y xs
+  put_at k i y xs h e = set_position f k xs i y (sym h) e ∙ sym (put_is y xs ∙ rw (sym h, e) refl)
+
+  pub put_new : (k : ℕ) (y : X) (xs : List X) → k ≡ f y → position f k xs ≡ None → put f y xs ≡ xs ++ y ∷ []
+  put_new k y xs h e = put_is y xs ∙ rw (sym h, e) refl
 
   -- a row that passes keeps it so that all rows pass
   pub every_put : (p : X → Bool) (y : X) (xs : List X) → every p xs ≡ true → p y ≡ true → every p (put f y xs) ≡ true
@@ -53,23 +52,6 @@ module _ {X : Type 0} (f : X → ℕ) where
       at false true q g l ih = ih g l
       at b false q g l ih = absurd (let z : ◌≡◌ {A = ℕ} 0 1 = ap (λ t. cond t 1 0) g in omega arith)
 
-  some_position : (k : ℕ) (xs : List X) → is_some (position f k xs) ≡ is_some (lookup f k xs)
-  some_position k [] = refl
-  some_position k (x ∷ xs) = at (f x == k) (position f k xs) (some_position k xs)
-    where
-      at : (b : Bool) (o : Option ℕ) → is_some o ≡ is_some (lookup f k xs) → is_some (cond b (Some 0) (option_map suc o)) ≡ is_some (cond b (Some x) (lookup f k xs))
-      at true o ih = refl
-      at false None ih = ih
-      at false (Some j) ih = ih
-
-  -- a full table has room for the nodes it has
-  pub room_full : (k : ℕ) (xs : List X) → 64 ≤ length xs → is_some (position f k xs) ≡ has_room f k xs
-  room_full k xs h = let e : nat_lt (length xs) 64 ≡ false = le-ltb (length xs) 64 h in some_position k xs ∙ sym (ap (λ b. cond b true (is_some (lookup f k xs))) e)
-
   -- where a node has no row, room is room for one more
-  pub room_new : (k : ℕ) (xs : List X) → has_room f k xs ≡ true → position f k xs ≡ None → length xs < 64
-  room_new k xs h e =
-      elim (cases_lt (length xs) 64) [
-        | inl l ↦ l
-        | inr g ↦ absurd (let z : ◌≡◌ {A = ℕ} 0 1 = ap (λ b. cond b 1 0) (ap is_some (sym e) ∙ room_full k xs g ∙ h) in omega arith)
-      ]
+  pub room_new : (j k : ℕ) (xs : List X) → j ≡ k → has_room f k xs ≡ true → position f j xs ≡ None → length xs < 64
+  room_new j k xs q h e = let n : lookup f k xs ≡ None = ap (λ i. lookup f i xs) (sym q) ∙ lookup_none f j xs e in let r = rw n at h in grind (arith, nat_tests, r)

@@ -1,20 +1,19 @@
 // The struct alone: what its facts import must not name it.
-ghost use Rattle.std.specs.Prelude.{◌≡◌, ◌≤◌, true, length, take};
+ghost use Rattle.std.specs.Prelude.{◌≡◌, ◌≤◌, true};
+ghost use Rattle.fifo.specs.Bounded.{items};
 ghost use Rattle.sources.specs.Table.{every};
 ghost use Rattle.sources.specs.Rows.{day_fits};
 
 use crate::rows::Expiry;
+use fifo::bounded::BoundedList;
 
 pub mod methods;
 
 // The certificates: the day on which each of at most 64 nodes' certificate ends, and today's day.
 #[derive(Clone, Copy)]
 pub struct Certificates {
-    rows: [Expiry; 64],
-    count: usize,
+    rows: BoundedList<Expiry, 64>,
     today: u32,
-    ghost few: { count ≤ 64 },
     ghost day: { today ≤ 1000000 },
-    ghost whole: { length rows ≡ 64 },
-    ghost fit: { every day_fits (take count rows) ≡ true },
+    ghost fit: { every day_fits (items rows) ≡ true },
 }

@@ -1,6 +1,7 @@
-ghost use Rattle.std.specs.Prelude.{◌≡◌};
+ghost use Rattle.std.specs.Prelude.{◌≡◌, Some};
 ghost use Rattle.sources.specs.Faults.{source_refusal, source_fault_name};
 
+use std::fmt;
 use values::fault::{Layer, Refusal};
 
 // Why a source refuses a row, at the row's node, or a day, at 0.
@@ -15,22 +16,15 @@ impl SourceFault {
     pub fn refusal(&self) -> Refusal
         ensures { result ≡ source_refusal self.now }
     {
-        match self {
-            SourceFault::TableFull(place) => Refusal {
-                number: 14,
-                layer: Layer::Source,
-                place: *place,
-            },
-            SourceFault::TypeMismatch(place) => Refusal {
-                number: 15,
-                layer: Layer::Source,
-                place: *place,
-            },
-            SourceFault::OutOfRange(place) => Refusal {
-                number: 16,
-                layer: Layer::Source,
-                place: *place,
-            },
+        let (number, place) = match *self {
+            SourceFault::TableFull(place) => (14, place),
+            SourceFault::TypeMismatch(place) => (15, place),
+            SourceFault::OutOfRange(place) => (16, place),
+        };
+        Refusal {
+            number,
+            layer: Layer::Source,
+            place,
         }
     }
 
@@ -43,5 +37,13 @@ impl SourceFault {
             SourceFault::TypeMismatch(_) => "Bad_TypeMismatch",
             SourceFault::OutOfRange(_) => "Bad_OutOfRange",
         }
+    }
+}
+
+impl fmt::Display for SourceFault {
+    ghost output = { λ e. Some (source_fault_name e) };
+
+    fn fmt<W: fmt::Write>(&self, f: &mut fmt::Formatter<W>) -> fmt::Result {
+        f.write_str(self.name())
     }
 }

@@ -22,7 +22,7 @@ impl<A: Source, B: Source> Source for Joined<A, B> {
 
     ghost sound = { Prim.search rules };
 
-    fn query(&self, node: u32) -> Standing {
+    fn query(&self, node: u32) -> Option<Standing> {
         if node < self.split {
             self.first.query(node)
         } else {

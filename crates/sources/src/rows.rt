@@ -1,6 +1,6 @@
 ghost use Rattle.sources.specs.Rows.{node_of_row, node_of_expiry};
 
-use fifo::queue::Keyed;
+use fifo::keyed::Keyed;
 use values::value::{Kind, Sample};
 
 // A row of the process image.
@@ -12,7 +12,7 @@ pub struct Row {
 }
 
 // A row of the certificates: the day on which the node's certificate ends.
-#[derive(Clone, Copy)]
+#[derive(Clone, Copy, Default)]
 pub struct Expiry {
     pub node: u32,
     pub end_day: u32,

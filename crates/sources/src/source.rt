@@ -1,21 +1,27 @@
-ghost use Rattle.std.specs.Prelude.{◌≡◌, ℕ};
+ghost use Rattle.std.specs.Prelude.{◌≡◌, ℕ, Option as Opt};
 ghost use Rattle.sources.specs.declared.source.Standing.{Standing as Stand};
 ghost use Rattle.sources.specs.Standings.{Sound, sample_of};
 
 use values::value::{Kind, Sample, Value};
 
-// What a source stands at for a node.
+// What a source stands at for a node that it knows.
 #[derive(Clone, Copy)]
-pub enum Standing {
-    Unknown,
-    Known(Kind, Sample),
+pub struct Standing {
+    pub kind: Kind,
+    pub sample: Sample,
 }
 
-// A source stands at something for every node, and its one query tells what, changing nothing.
-pub trait Source {
-    ghost stands: { Self → ℕ → Stand };
+const UNKNOWN_NODE: Sample = Sample {
+    value: Value::Empty,
+    status: 0x8034_0000,
+    time: 0,
+};
 
-    fn query(&self, node: u32) -> Standing
+// A source knows a node or not, and its one query tells what it stands at, changing nothing.
+pub trait Source {
+    ghost stands: { Self → ℕ → Opt Stand };
+
+    fn query(&self, node: u32) -> Option<Standing>
         ensures { result ≡ stands self.now node };
 
     // A known node's value is empty or of its kind.
@@ -26,12 +32,7 @@ pub trait Source {
 pub fn sampled<S: Source>(source: &S, node: u32) -> Sample
     ensures { result ≡ sample_of (S.Source.stands source.now node) }
 {
-    match source.query(node) {
-        Standing::Known(_, sample) => sample,
-        Standing::Unknown => Sample {
-            value: Value::Empty,
-            status: 0x8034_0000,
-            time: 0,
-        },
-    }
+    source
+        .query(node)
+        .map_or(UNKNOWN_NODE, |standing| standing.sample)
 }

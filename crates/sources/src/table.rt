@@ -1,39 +1,27 @@
-// Tables of at most 64 rows, each with a node: the first `count` places, one generic text for both sources.
-ghost use Rattle.std.specs.Prelude.{◌≡◌, ◌≤◌, true, length, take};
+// Tables of at most 64 rows, each with a node, for both sources. Functions and no struct: each source holds its rows to a
+// test of its own, which a struct could take only through one more trait.
+ghost use Rattle.std.specs.Prelude.{◌≡◌, true};
+ghost use Rattle.fifo.specs.Bounded.{items};
 ghost use Rattle.sources.specs.Table.{has_room, put};
 
-use fifo::queue;
-use fifo::queue::Keyed;
-
-const ROWS: usize = 64;
+use fifo::bounded::BoundedList;
+use fifo::keyed::Keyed;
 
 // Whether the node has a row, or there is room for one more.
-pub(crate) fn has_room<T: Keyed>(rows: &[T], count: usize, node: u32) -> bool
-    requires { count ≤ length rows.now }
-    ensures { result ≡ has_room T.Keyed.tag node (take count rows.now) }
+pub(crate) fn has_room<T: Keyed>(rows: &BoundedList<T, 64>, node: u32) -> bool
+    ensures { result ≡ has_room T.Keyed.tag node (items rows.now) }
 {
-    if count < ROWS {
-        return true;
-    }
-    queue::find(rows, count, node).is_some()
+    !rows.is_full() || rows.contains(node)
 }
 
-// Puts the row in the place of its node's row, or last; the count of rows then.
-pub(crate) fn put_row<T: Keyed>(rows: &mut [T], count: usize, row: T) -> usize
-    requires whole { length rows.old ≡ 64 }
-    requires within { count ≤ 64 }
-    requires room { has_room T.Keyed.tag (T.Keyed.tag row) (take count rows.old) ≡ true }
-    ensures after { take result rows.new ≡ put T.Keyed.tag row (take count rows.old) }
-    ensures bound { result ≤ 64 }
+// Puts the row in the place of its node's row, or last.
+#[tactic(auto, using(crate::specs::Puts::put_at, crate::specs::Puts::put_new, crate::specs::Puts::room_new))]
+pub(crate) fn put_row<T: Keyed>(rows: &mut BoundedList<T, 64>, row: T)
+    requires { has_room T.Keyed.tag (T.Keyed.tag row) (items rows.old) ≡ true }
+    ensures { items rows.new ≡ put T.Keyed.tag row (items rows.old) }
 {
-    match queue::find(rows, count, row.key()) {
-        Some(i) => {
-            rows[i] = row;
-            count
-        }
-        None => {
-            queue::push(rows, count, row);
-            count + 1
-        }
+    match rows.find(row.key()) {
+        Some(i) => rows.set(i, row),
+        None => rows.push(row),
     }
 }

@@ -1,7 +1,7 @@
 -- The loop that answers every queued request.
-use Rattle.std.proofs.Common.{◌≡◌, ℕ, ◌+◌, ◌≤◌, List, [], ◌∷◌, map, length, None, sym, refl, ◌∙◌, add-zero, arith}
+use Rattle.std.proofs.Common.{◌≡◌, ℕ, ◌≤◌, List, map, length, drop, sym, ap, ◌∙◌, arith}
 use lib.Seq.{sets}
-use Rattle.fifo.specs.Lists.{first, rest}
+use Rattle.std.proofs.lemmas.List.{drop_all, length-map}
 use Rattle.item_table.specs.Turn.{over}
 use Rattle.messages.specs.declared.response.Response.{Response}
 use Rattle.messages.specs.declared.response.ResponseKind.TheVariants.{NoSubscription}
@@ -11,19 +11,12 @@ use Rattle.model.proofs.Writing.{sets_over}
 abbrev pub refusals : List ℕ → List Response
 refusals hs = map (refusing NoSubscription) hs
 
--- with `count` of the responses written, what is left to write gives the whole
-pub record Answering (begun : List Response) (all : List ℕ) (count : ℕ) (responses : List Response) (left : List ℕ) : Type 0 where
-  pub written : sets responses count (refusals left) ≡ sets begun 0 (refusals all)
-  pub total : count + length (refusals left) ≡ length (refusals all)
-  pub whole : length responses ≡ length begun
-  pub space : count + length left ≤ 8
+-- what is left to write from place i on gives the whole
+abbrev pub Answering : List Response → List ℕ → List Response → ℕ → Type 0
+Answering begun hs out i = sets out i (refusals (drop i hs)) ≡ sets begun 0 (refusals hs)
 
--- no request is left
-pub answered : (begun : List Response) (all : List ℕ) (count : ℕ) (responses : List Response) (left : List ℕ) → Answering begun all count responses left → 8 ≤ length responses → None ≡ first left
-    → (rest left ≡ []) × (count ≡ length (refusals all)) × (responses ≡ over (refusals all) begun)
-answered begun all count responses [] g long e =
-    let t = g.total in
-    let s = g.space in
-    let w = g.whole in
-    (refl, sym (add-zero count) ∙ t, g.written ∙ sets_over (refusals all) begun (omega arith))
-answered begun all count responses (x ∷ left) g long e = absurd (let z : ◌≡◌ {A = ℕ} 0 1 = cc in omega arith)
+-- none is left
+pub answered : (begun : List Response) (hs : List ℕ) (out : List Response) (i : ℕ) → length hs ≤ i → length hs ≤ length begun → Answering begun hs out i → out ≡ over (refusals hs) begun
+answered begun hs out i l m g =
+    let n = length-map hs (refusing NoSubscription) in
+    sym (ap (λ xs. sets out i (refusals xs)) (drop_all i hs l)) ∙ g ∙ sets_over (refusals hs) begun (omega (arith, m, n))

@@ -3,33 +3,30 @@ ghost use Rattle.model.specs.State.{state_of};
 ghost use Rattle.model.specs.Subscribing.{create_subscription};
 
 use answers::fault::ServiceFault;
+use model::revised::CreatedSubscription;
 use model::state::EngineState;
+use subscriptions::parameters::SubscriptionParameters;
 use subscriptions::subscription::Subscription;
 
-// A new subscription; returns its id, its interval in ticks, its keep-alive count and its lifetime
-// count.
+// A new subscription; returns its id and its revised parameters.
 pub fn create_subscription(
     state: &mut EngineState,
-    milliseconds: i32,
-    keep_alive: u32,
-    lifetime: u32,
-    limit: u32,
+    parameters: SubscriptionParameters,
     enabled: bool,
-) -> Result<(u32, u32, u32, u32), ServiceFault>
-    ensures after { state_of state.new ≡ (create_subscription (state_of state.old) milliseconds keep_alive lifetime limit enabled).state }
-    ensures value { result ≡ (create_subscription (state_of state.old) milliseconds keep_alive lifetime limit enabled).answer }
+) -> Result<CreatedSubscription, ServiceFault>
+    ensures after { state_of state.new ≡ (create_subscription (state_of state.old) parameters enabled).state }
+    ensures value { result ≡ (create_subscription (state_of state.old) parameters enabled).answer }
 {
     if state.subscriptions.is_full() {
         return Err(ServiceFault::TooManySubscriptions);
     }
-    if state.next_id > 4_294_967_295 {
-        return Err(ServiceFault::IdsUsedUp);
-    }
-    let id = state.next_id as u32;
-    let subscription = Subscription::new(id, milliseconds, keep_alive, lifetime, limit, enabled);
+    let id = u32::try_from(state.next_id).map_err(|_| ServiceFault::IdsUsedUp)?;
+    let subscription = Subscription::new(id, parameters, enabled);
     state.next_id += 1;
     state.subscriptions.push(subscription);
     let _ = state.kept.open(id);
-    let (interval, keep_alive, lifetime) = subscription.figures.revised.answer();
-    Ok((id, interval, keep_alive, lifetime))
+    Ok(CreatedSubscription {
+        id,
+        revised: subscription.figures.revised.answer(),
+    })
 }

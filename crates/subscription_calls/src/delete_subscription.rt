@@ -8,7 +8,6 @@ ghost use Rattle.model.specs.Subscribing.{delete_subscription};
 
 use answers::fault::ServiceFault;
 use messages::response::Response;
-use model::live::find_live;
 use model::state::EngineState;
 use numbers::numbers::Numbers;
 
@@ -19,11 +18,12 @@ fn answer_all(requests: &mut Numbers, responses: &mut [Response]) -> usize
     ensures value { result ≡ length (map (refusing NoSubscription) (items requests.old)) }
     ensures responses { responses.new ≡ over (map (refusing NoSubscription) (items requests.old)) responses.old }
 {
-    let mut count = 0;
-    while let Some(handle) = requests.pop() {
-        responses[count] = Response::no_subscription(handle);
-        count += 1;
+    let handles = requests.as_slice();
+    for (i, handle) in handles.iter().enumerate() {
+        responses[i] = Response::no_subscription(*handle);
     }
+    let count = handles.len();
+    requests.clear();
     count
 }
 
@@ -41,13 +41,11 @@ pub fn delete_subscription(
     if responses.len() < 8 {
         return Err(ServiceFault::ListTooShort);
     }
-    let Some(_) = find_live(state, id) else {
-        return Err(ServiceFault::SubscriptionIdInvalid(id));
-    };
+    state.live_subscription(id)?;
     state.subscriptions.remove(id);
     state.items.remove_all(id);
     state.kept.close(id);
-    state.late.remove(id);
+    let _ = state.late.remove(id);
     if state.subscriptions.is_empty() {
         return Ok(answer_all(&mut state.requests, responses));
     }

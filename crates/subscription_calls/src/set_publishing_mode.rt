@@ -3,7 +3,6 @@ ghost use Rattle.model.specs.State.{state_of};
 ghost use Rattle.model.specs.Subscribing.{set_publishing_mode};
 
 use answers::fault::ServiceFault;
-use model::live::find_live;
 use model::state::EngineState;
 
 // Enables or disables publishing.
@@ -15,9 +14,7 @@ pub fn set_publishing_mode(
     ensures after { state_of state.new ≡ (set_publishing_mode (state_of state.old) id enabled).state }
     ensures value { result ≡ (set_publishing_mode (state_of state.old) id enabled).answer }
 {
-    let Some(mut subscription) = find_live(state, id) else {
-        return Err(ServiceFault::SubscriptionIdInvalid(id));
-    };
+    let mut subscription = state.live_subscription(id)?;
     subscription.set_publishing(enabled);
     state.subscriptions.replace(subscription);
     Ok(())

@@ -1,5 +1,6 @@
 -- The table of subscriptions.
-use Rattle.std.specs.Prelude.{false, List, map, take}
+use Rattle.std.specs.Prelude.{false, List, map}
+use Rattle.fifo.specs.Bounded.{items}
 use Rattle.subscriptions.specs.declared.figures.Figures.{Figures}
 use Rattle.subscriptions.specs.declared.figures.Phase.TheVariants.{Fresh}
 use Rattle.subscriptions.specs.Keys.{figures_of}
@@ -7,7 +8,7 @@ use Rattle.subscription_table.specs.declared.table.Table.{Table}
 
 -- the occupied slots, in the order of creation
 abbrev pub slots : Table → List Figures
-slots t = map figures_of (take t.len t.places)
+slots t = map figures_of (items t.rows)
 
 -- stands for no subscription
 abbrev pub blank : Figures

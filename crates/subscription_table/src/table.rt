@@ -1,15 +1,11 @@
-// The struct alone: what its facts import must not name it.
-ghost use Rattle.std.specs.Prelude.{◌≡◌, ◌≤◌, length};
-
+use fifo::bounded::BoundedList;
 use subscriptions::subscription::Subscription;
 
 pub mod methods;
 
-// The four slots: the first `len` are occupied, in the order of creation and so by rising id.
+// The four slots: those in use are occupied, in the order of creation and so by rising id. Its methods promise of the
+// subscriptions' figures what the functions of `tables` promise of any rows.
 #[derive(Clone, Copy)]
 pub struct Table {
-    places: [Subscription; 4],
-    len: usize,
-    ghost fits: { len ≤ 4 },
-    ghost long: { length places ≡ 4 },
+    rows: BoundedList<Subscription, 4>,
 }

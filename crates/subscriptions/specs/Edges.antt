@@ -3,9 +3,14 @@ use Rattle.std.specs.Prelude.{◌≡◌, Bool, false, ℕ, zero, suc, ℤ, pos, 
 use Rattle.values.specs.Ticks.{ticks_of}
 use Rattle.subscriptions.specs.declared.figures.Figures.{Figures}
 use Rattle.subscriptions.specs.declared.figures.Phase.TheVariants.{Late, Ended}
+use Rattle.subscriptions.specs.declared.parameters.SubscriptionParameters.{SubscriptionParameters}
 use Rattle.subscriptions.specs.Revision.{keep_alive_count, lifetime_count, revision}
 use Rattle.subscriptions.specs.Changes.{created, following}
 use Rattle.subscriptions.specs.Cycle.{cycle}
+
+-- the counts k and l, with an interval and a limit
+abbrev pub asking : ℤ → ℕ → ℕ → ℕ → SubscriptionParameters
+asking ms k l m = record { milliseconds = ms; keep_alive = k; lifetime = l; limit = m }
 
 -- after n cycles that find no request
 abbrev pub unanswered : ℕ → Bool → Figures → Figures
@@ -16,9 +21,9 @@ unanswered (suc n) waiting f = unanswered n waiting (cycle false waiting f).afte
 abbrev pub Shortest : Type 0
 Shortest =
     (id m : ℕ) (ms : ℤ) (enabled waiting : Bool) →
-    ((unanswered 1 waiting (created id (revision ms 1 3 m) enabled)).phase ≡ Late)
-    × ((unanswered 2 waiting (created id (revision ms 1 3 m) enabled)).phase ≡ Late)
-    × ((unanswered 3 waiting (created id (revision ms 1 3 m) enabled)).phase ≡ Ended)
+    ((unanswered 1 waiting (created id (revision (asking ms 1 3 m)) enabled)).phase ≡ Late)
+    × ((unanswered 2 waiting (created id (revision (asking ms 1 3 m)) enabled)).phase ≡ Late)
+    × ((unanswered 3 waiting (created id (revision (asking ms 1 3 m)) enabled)).phase ≡ Ended)
 
 abbrev pub EdgeFigures : Type 0
 EdgeFigures =

@@ -1,7 +1,9 @@
 -- The revised figures of a subscription.
-use Rattle.std.specs.Prelude.{cond, ℕ, ◌*◌, min, max, eqb, ℤ}
+use Rattle.std.specs.Prelude.{cond, ℕ, ◌*◌, min, max, eqb}
 use Rattle.values.specs.Ticks.{ticks_of}
 use Rattle.subscriptions.specs.declared.figures.Revised.{Revised}
+use Rattle.subscriptions.specs.declared.parameters.SubscriptionParameters.{SubscriptionParameters}
+use Rattle.subscriptions.specs.declared.parameters.RevisedSubscription.{RevisedSubscription}
 
 -- the keep-alive count, held within 1 to 1,000
 abbrev pub keep_alive_count : ℕ → ℕ
@@ -15,9 +17,9 @@ lifetime_count k l = min (max l (3 * keep_alive_count k)) 30000
 abbrev pub notification_limit : ℕ → ℕ
 notification_limit m = cond (eqb m 0) 16 (min m 16)
 
-abbrev pub revision : ℤ → ℕ → ℕ → ℕ → Revised
-revision ms k l m = record { interval = ticks_of ms; keep_alive = keep_alive_count k; lifetime = lifetime_count k l; limit = notification_limit m }
+abbrev pub revision : SubscriptionParameters → Revised
+revision p = record { interval = ticks_of p.milliseconds; keep_alive = keep_alive_count p.keep_alive; lifetime = lifetime_count p.keep_alive p.lifetime; limit = notification_limit p.limit }
 
 -- what a client is told: the interval in ticks and the two counts
-abbrev pub answer_of : Revised → ℕ × ℕ × ℕ
-answer_of r = (r.interval, r.keep_alive, r.lifetime)
+abbrev pub answer_of : Revised → RevisedSubscription
+answer_of r = record { interval = r.interval; keep_alive = r.keep_alive; lifetime = r.lifetime }

@@ -4,14 +4,15 @@ ghost use Rattle.subscriptions.specs.Revision.{answer_of, revision};
 ghost use Rattle.subscriptions.specs.Changes.{created, modified, publishing, named, number_used, served_last, messaged, joined, counted_down, runs};
 
 use crate::figures::{Figures, Phase};
+use crate::parameters::{RevisedSubscription, SubscriptionParameters};
 use crate::revision::revise;
 use crate::subscription::Subscription;
 
 impl Subscription {
-    pub fn new(id: u32, ms: i32, keep_alive: u32, lifetime: u32, limit: u32, enabled: bool) -> Self
-        ensures { result.figures ≡ created id (revision ms keep_alive lifetime limit) enabled }
+    pub fn new(id: u32, parameters: SubscriptionParameters, enabled: bool) -> Self
+        ensures { result.figures ≡ created id (revision parameters) enabled }
     {
-        let revised = revise(ms, keep_alive, lifetime, limit);
+        let revised = revise(parameters);
         Subscription {
             figures: Figures {
                 id,
@@ -30,18 +31,15 @@ impl Subscription {
     pub fn is_live(&self) -> bool
         ensures { result ≡ live self.now.figures.phase }
     {
-        match self.figures.phase {
-            Phase::Ended => false,
-            _ => true,
-        }
+        self.figures.phase != Phase::Ended
     }
 
     // Replaces the four figures; the answer is what a client is told.
-    pub fn modify(&mut self, ms: i32, keep_alive: u32, lifetime: u32, limit: u32) -> (u32, u32, u32)
-        ensures after { self.new.figures ≡ modified (revision ms keep_alive lifetime limit) self.old.figures }
-        ensures value { result ≡ answer_of (revision ms keep_alive lifetime limit) }
+    pub fn modify(&mut self, parameters: SubscriptionParameters) -> RevisedSubscription
+        ensures after { self.new.figures ≡ modified (revision parameters) self.old.figures }
+        ensures value { result ≡ answer_of (revision parameters) }
     {
-        let revised = revise(ms, keep_alive, lifetime, limit);
+        let revised = revise(parameters);
         self.reset_idle();
         self.figures.revised = revised;
         self.figures.countdown = self.figures.countdown.min(revised.interval);
@@ -69,11 +67,7 @@ impl Subscription {
         ensures value { result ≡ self.old.figures.number }
     {
         let number = self.figures.number;
-        self.figures.number = if number == 4_294_967_295 {
-            1
-        } else {
-            number + 1
-        };
+        self.figures.number = number.checked_add(1).unwrap_or(1);
         number
     }
 
@@ -97,9 +91,8 @@ impl Subscription {
     pub fn join_late_list(&mut self)
         ensures { self.new.figures ≡ joined self.old.figures }
     {
-        match self.figures.phase {
-            Phase::Ended => {}
-            _ => self.figures.phase = Phase::Late,
+        if self.is_live() {
+            self.figures.phase = Phase::Late;
         }
     }
 

@@ -1,8 +1,9 @@
-ghost use Rattle.std.specs.Prelude.{◌≡◌, ◌∷◌, []};
+ghost use Rattle.std.specs.Prelude.{◌≡◌, ◌∷◌, [], pos};
 ghost use Rattle.subscriptions.specs.declared.figures.Outcome.TheVariants.{Rests, Joins, Ends};
-ghost use Rattle.subscriptions.specs.Edges.{EdgeFigures};
+ghost use Rattle.subscriptions.specs.Edges.{EdgeFigures, asking};
 
 use crate::figures::Outcome;
+use crate::parameters::SubscriptionParameters;
 use crate::revision::revise;
 use crate::subscription::Subscription;
 
@@ -10,11 +11,23 @@ fn figures()
     ensures { EdgeFigures }
 {}
 
+// 50 ms, the two counts, and as many notifications in a message as fit.
+fn ask(keep_alive: u32, lifetime: u32) -> SubscriptionParameters
+    ensures { result ≡ asking (pos 50) keep_alive lifetime 0 }
+{
+    SubscriptionParameters {
+        milliseconds: 50,
+        keep_alive,
+        lifetime,
+        limit: 0,
+    }
+}
+
 // What comes of three cycles that find no request, with a keep-alive count of 1 and a lifetime count of 3.
 fn three_cycles() -> [Outcome; 3]
     ensures { result ≡ Joins ∷ Rests ∷ Ends ∷ [] }
 {
-    let mut s = Subscription::new(1, 50, 1, 3, 16, true);
+    let mut s = Subscription::new(1, ask(1, 3), true);
     [
         s.cycle(false, false),
         s.cycle(false, false),
@@ -31,8 +44,8 @@ pub fn edge_figures() -> (u32, u32, [Outcome; 3])
     figures();
     let outcomes = three_cycles();
     (
-        revise(50, 0, 0, 0).keep_alive,
-        revise(50, 2, 5, 0).lifetime,
+        revise(ask(0, 0)).keep_alive,
+        revise(ask(2, 5)).lifetime,
         outcomes,
     )
 }

@@ -2,8 +2,10 @@ ghost use Rattle.std.specs.Prelude.{◌≡◌};
 ghost use Rattle.subscriptions.specs.Cycle.{due};
 ghost use Rattle.subscriptions.specs.Revision.{answer_of};
 
+use crate::parameters::RevisedSubscription;
+
 // Where a subscription stands: nothing sent yet, between messages, on the late list, or ended and still there.
-#[derive(Clone, Copy)]
+#[derive(Clone, Copy, PartialEq, Eq)]
 pub enum Phase {
     Fresh,
     Quiet,
@@ -12,7 +14,7 @@ pub enum Phase {
 }
 
 // What comes of a publishing cycle: nothing, a message with the oldest request, a place on the late list, the end.
-#[derive(Clone, Copy)]
+#[derive(Clone, Copy, PartialEq, Eq)]
 pub enum Outcome {
     Rests,
     Sends,
@@ -47,10 +49,14 @@ pub struct Figures {
 
 impl Revised {
     // The interval and the two counts, as a client is told them.
-    pub fn answer(&self) -> (u32, u32, u32)
+    pub fn answer(&self) -> RevisedSubscription
         ensures { result ≡ answer_of self.now }
     {
-        (self.interval, self.keep_alive, self.lifetime)
+        RevisedSubscription {
+            interval: self.interval,
+            keep_alive: self.keep_alive,
+            lifetime: self.lifetime,
+        }
     }
 }
 
@@ -59,9 +65,8 @@ impl Figures {
     pub fn is_due(&self, waiting: bool) -> bool
         ensures { result ≡ due waiting self.now }
     {
-        match self.phase {
-            Phase::Fresh => true,
-            _ => self.quiet >= self.revised.keep_alive || self.enabled && waiting,
-        }
+        self.phase == Phase::Fresh
+            || self.quiet >= self.revised.keep_alive
+            || self.enabled && waiting
     }
 }

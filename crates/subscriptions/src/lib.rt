@@ -5,6 +5,7 @@ pub mod changes;
 pub mod cycle;
 pub mod edges;
 pub mod figures;
+pub mod parameters;
 pub mod revision;
 pub mod row;
 pub mod subscription;

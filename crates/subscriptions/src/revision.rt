@@ -2,20 +2,21 @@ ghost use Rattle.std.specs.Prelude.{◌≡◌};
 ghost use Rattle.subscriptions.specs.Revision.{revision};
 
 use crate::figures::Revised;
+use crate::parameters::SubscriptionParameters;
 use values::ticks::ticks;
 
 // The figures that a client gets for those it asks for.
-pub fn revise(ms: i32, keep_alive: u32, lifetime: u32, limit: u32) -> Revised
-    ensures { result ≡ revision ms keep_alive lifetime limit }
+pub fn revise(parameters: SubscriptionParameters) -> Revised
+    ensures { result ≡ revision parameters }
 {
-    let interval = ticks(ms);
-    let keep_alive = keep_alive.clamp(1, 1_000);
-    let lifetime = lifetime.max(3 * keep_alive).min(30_000);
-    let limit = if limit == 0 { 16 } else { limit.min(16) };
+    let keep_alive = parameters.keep_alive.clamp(1, 1_000);
     Revised {
-        interval,
+        interval: ticks(parameters.milliseconds),
         keep_alive,
-        lifetime,
-        limit,
+        lifetime: parameters.lifetime.max(3 * keep_alive).min(30_000),
+        limit: match parameters.limit {
+            0 => 16,
+            limit => limit.min(16),
+        },
     }
 }

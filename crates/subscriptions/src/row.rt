@@ -3,7 +3,7 @@ ghost use Rattle.subscriptions.specs.declared.figures.Figures.{Figures as PlainF
 ghost use Rattle.std.proofs.Common.{rules, arith};
 
 use crate::subscription::Subscription;
-use fifo::queue::Keyed;
+use fifo::keyed::Keyed;
 use tables::Row;
 
 impl Keyed for Subscription {

@@ -1,53 +1,26 @@
--- The plain data of the records in use, where a record's key is the key of its data.
-use Rattle.std.proofs.Common.{◌≡◌, ℕ, ◌<◌, ◌≤◌, List, map, length, get_or, take, set, Some, None, sym, ap, ◌∙◌, arith, length-take}
-use Rattle.std.specs.List.{remove}
+-- The plain data of records, where a record's key is the key of its data.
+use Rattle.std.proofs.Common.{◌≡◌, ℕ, List, map, Some, None, Option, refl, ap, ◌∙◌}
 use Rattle.std.specs.Option.{option_map}
-use Rattle.std.proofs.lemmas.List.{length-map, map-set, get_or-map, get_or-take}
-use Rattle.fifo.specs.Lists.{position, lookup, replaced, without}
-use Rattle.fifo.proofs.Keys.{lookup_position, lookup_none, lookup_map, position_map, set_position, replaced_none, removed_position, removed_map, without_none, set_taken}
+use Rattle.fifo.specs.Lists.{lookup, replaced, without}
+use Rattle.fifo.proofs.Keys.{lookup_map, replaced_map, without_map}
 
-module _ {X Y : Type 0} (g : X → Y) (places : List X) (n : ℕ) where
-  pub plain_length : n ≤ length places → length (map g (take n places)) ≡ n
-  plain_length le = simp (length-map, length-take) (omega arith)
+module _ {X Y : Type 0} (g : X → Y) (f : Y → ℕ) (t : X → ℕ) (law : (x : X) → t x ≡ f (g x)) where
+  same : t ≡ (λ x. f (g x))
+  same = λ i x. law x i
 
-  pub plain_at : (i : ℕ) (x : X) → x ≡ get_or (take n places) i x → i < length (map g (take n places)) → (d : Y) → g x ≡ get_or (map g (take n places)) i d
-  plain_at i x e lt d =
-      let h : i < length (take n places) = omega (arith, length-map (take n places) g) in
-      ap g e ∙ sym (get_or-map g (take n places) i x d h)
+  pub plain_lookup : (k : ℕ) (xs : List X) → option_map g (lookup t k xs) ≡ lookup f k (map g xs)
+  plain_lookup k xs = ap (λ h. option_map g (lookup h k xs)) same ∙ lookup_map g f k xs
 
-  pub plain_put : (i : ℕ) (x : X) → i < n → map g (take n (set places i x)) ≡ set (map g (take n places)) i (g x)
-  plain_put i x lt = ap (map g) (set_taken places n i x lt) ∙ map-set g (take n places) i x
+  -- the same, where the record is read by v
+  pub plain_read : {Z : Type 0} (v : Z → X) (o : Option Z) (k : ℕ) (xs : List X) → option_map v o ≡ lookup t k xs → option_map (λ z. g (v z)) o ≡ lookup f k (map g xs)
+  plain_read {Z} v o k xs e = twice o ∙ ap (option_map g) e ∙ plain_lookup k xs
+    where
+      twice : (o : Option Z) → option_map (λ z. g (v z)) o ≡ option_map g (option_map v o)
+      twice None = refl
+      twice (Some z) = refl
 
-  -- by key
-  module _ (f : Y → ℕ) (t : X → ℕ) (law : (x : X) → t x ≡ f (g x)) (k : ℕ) where
-    same : t ≡ (λ x. f (g x))
-    same = λ i x. law x i
+  pub plain_replaced : (xs : List X) (y : X) → map g (replaced t y xs) ≡ replaced f (g y) (map g xs)
+  plain_replaced xs y = ap (λ h. map g (replaced h y xs)) same ∙ replaced_map g f xs y
 
-    plain_position : position t k (take n places) ≡ position f k (map g (take n places))
-    plain_position = ap (λ h. position h k (take n places)) same ∙ position_map g f k (take n places)
-
-    pub plain_lookup : option_map g (lookup t k (take n places)) ≡ lookup f k (map g (take n places))
-    plain_lookup = ap (λ h. option_map g (lookup h k (take n places))) same ∙ lookup_map g f k (take n places)
-
-    pub found : (i : ℕ) (x : X) → i < n → x ≡ get_or places i x → Some i ≡ position t k (take n places) → Some (g x) ≡ lookup f k (map g (take n places))
-    found i x lt r e =
-        ap (λ y. Some (g y)) (r ∙ sym (get_or-take n places i x lt))
-        ∙ sym (ap (option_map g) (lookup_position t k (take n places) i x (sym e)))
-        ∙ plain_lookup
-
-    pub missing : None ≡ position t k (take n places) → None ≡ lookup f k (map g (take n places))
-    missing e = sym (ap (option_map g) (lookup_none t k (take n places) (sym e))) ∙ plain_lookup
-
-    pub stored : (i : ℕ) (x : X) → t x ≡ k → i < n → Some i ≡ position t k (take n places) → map g (take n (set places i x)) ≡ replaced f (g x) (map g (take n places))
-    stored i x h lt e =
-        plain_put i x lt ∙ set_position f k (map g (take n places)) i (g x) (sym (law x) ∙ h) (sym plain_position ∙ sym e)
-
-    pub unstored : (x : X) → t x ≡ k → None ≡ position t k (take n places) → map g (take n places) ≡ replaced f (g x) (map g (take n places))
-    unstored x h e = sym (replaced_none f k (map g (take n places)) (g x) (sym (law x) ∙ h) (sym plain_position ∙ sym e))
-
-    pub removed_at : (i : ℕ) (xs : List X) → xs ≡ remove (take n places) i → Some i ≡ position t k (take n places) → map g xs ≡ without f k (map g (take n places))
-    removed_at i xs a e =
-        ap (map g) a ∙ removed_map g (take n places) i ∙ removed_position f k (map g (take n places)) i (sym plain_position ∙ sym e)
-
-    pub unremoved : None ≡ position t k (take n places) → map g (take n places) ≡ without f k (map g (take n places))
-    unremoved e = sym (without_none f k (map g (take n places)) (sym plain_position ∙ sym e))
+  pub plain_without : (k : ℕ) (xs : List X) → map g (without t k xs) ≡ without f k (map g xs)
+  plain_without k xs = ap (λ h. map g (without h k xs)) same ∙ without_map g f k xs

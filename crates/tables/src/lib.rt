@@ -1,12 +1,13 @@
-// Tables of records that a model sees without their facts: the first `len` places of a slice, each record with a key.
+// Bounded lists of records that a model sees without their facts, each record with a key.
 #![tactic(auto)]
 
-ghost use Rattle.std.specs.Prelude.{◌≡◌, ℕ, ◌+◌, ◌<◌, ◌≤◌, [], ◌∷◌, ◌++◌, map, length, take, slice_index_or, slice_set};
+ghost use Rattle.std.specs.Prelude.{◌≡◌, ℕ, ◌<◌, ◌≤◌, [], ◌∷◌, ◌++◌, map, length, slice_index_or, slice_set};
 ghost use Rattle.std.specs.Option.{option_map};
 ghost use Rattle.fifo.specs.Lists.{lookup, replaced, without};
+ghost use Rattle.fifo.specs.Bounded.{items};
 
-use fifo::queue;
-use fifo::queue::Keyed;
+use fifo::bounded::BoundedList;
+use fifo::keyed::Keyed;
 
 // A record with its plain data, as the model has it, and the key of those.
 pub trait Row: Keyed {
@@ -20,78 +21,63 @@ pub trait Row: Keyed {
     ghost keyed: { (r : Self) → Self.Keyed.tag r ≡ key_of (plain r) };
 }
 
-// The places in use.
-pub fn in_use<T: Row>(places: &[T], len: usize) -> &[T]
-    requires { len ≤ length places.now }
-    ensures value { result.now ≡ take len places.now }
-    ensures count { length result.now ≡ length (map T.Row.plain (take len places.now)) }
-    ensures bound { length result.now ≡ len }
+// The records.
+pub fn in_use<T: Row, const N: usize>(rows: &BoundedList<T, N>) -> &[T]
+    ensures value { result.now ≡ items rows.now }
+    ensures count { length result.now ≡ length (map T.Row.plain (items rows.now)) }
+    ensures bound { length result.now ≤ N }
 {
-    &places[0..len]
+    rows.as_slice()
 }
 
 // The record at place `i`.
-pub fn at<T: Row>(places: &[T], len: usize, i: usize) -> T
-    requires within { i < length (map T.Row.plain (take len places.now)) }
-    requires fits { len ≤ length places.now }
-    ensures { (d : T.Row.Plain) → T.Row.plain result ≡ slice_index_or (map T.Row.plain (take len places.now)) i d }
+pub fn at<T: Row, const N: usize>(rows: &BoundedList<T, N>, i: usize) -> T
+    requires { i < length (map T.Row.plain (items rows.now)) }
+    ensures { (d : T.Row.Plain) → T.Row.plain result ≡ slice_index_or (map T.Row.plain (items rows.now)) i d }
 {
-    in_use(places, len)[i]
+    in_use(rows)[i]
 }
 
 // Puts a record at place `i`.
-pub fn put<T: Row>(places: &mut [T], len: usize, i: usize, row: T)
-    requires within { i < length (map T.Row.plain (take len places.old)) }
-    requires fits { len ≤ length places.old }
-    ensures { map T.Row.plain (take len places.new) ≡ slice_set (map T.Row.plain (take len places.old)) i (T.Row.plain row) }
+pub fn put<T: Row, const N: usize>(rows: &mut BoundedList<T, N>, i: usize, row: T)
+    requires { i < length (map T.Row.plain (items rows.old)) }
+    ensures { map T.Row.plain (items rows.new) ≡ slice_set (map T.Row.plain (items rows.old)) i (T.Row.plain row) }
 {
-    places[i] = row;
+    rows.set(i, row);
 }
 
 // One more at the end.
-pub fn push<T: Row>(places: &mut [T], len: usize, row: T)
-    requires { len < length places.old }
-    ensures { map T.Row.plain (take (len + 1) places.new) ≡ map T.Row.plain (take len places.old) ++ T.Row.plain row ∷ [] }
+pub fn push<T: Row, const N: usize>(rows: &mut BoundedList<T, N>, row: T)
+    requires { length (map T.Row.plain (items rows.old)) < N }
+    ensures { map T.Row.plain (items rows.new) ≡ map T.Row.plain (items rows.old) ++ T.Row.plain row ∷ [] }
 {
-    queue::push(places, len, row);
+    rows.push(row);
 }
 
 // The record with this key.
-pub fn lookup<T: Row>(places: &[T], len: usize, key: u32) -> Option<T>
-    requires { len ≤ length places.now }
-    ensures { option_map T.Row.plain result ≡ lookup T.Row.key_of key (map T.Row.plain (take len places.now)) }
+pub fn lookup<T: Row, const N: usize>(rows: &BoundedList<T, N>, key: u32) -> Option<T>
+    ensures { option_map T.Row.plain result ≡ lookup T.Row.key_of key (map T.Row.plain (items rows.now)) }
 {
-    queue::lookup(places, len, key)
+    rows.lookup(key)
 }
 
 // The record with this key, where it lies.
-pub fn get<T: Row>(places: &[T], len: usize, key: u32) -> Option<&T>
-    requires { len ≤ length places.now }
-    ensures { option_map (λ x. T.Row.plain x.now) result ≡ lookup T.Row.key_of key (map T.Row.plain (take len places.now)) }
+pub fn get<T: Row, const N: usize>(rows: &BoundedList<T, N>, key: u32) -> Option<&T>
+    ensures { option_map (λ x. T.Row.plain x.now) result ≡ lookup T.Row.key_of key (map T.Row.plain (items rows.now)) }
 {
-    let place = queue::find(places, len, key)?;
-    Some(&places[place])
+    rows.get(key)
 }
 
 // Puts a record in the place of the one with its key, if there is one.
-pub fn replace<T: Row>(places: &mut [T], len: usize, row: T)
-    requires { len ≤ length places.old }
-    ensures { map T.Row.plain (take len places.new) ≡ replaced T.Row.key_of (T.Row.plain row) (map T.Row.plain (take len places.old)) }
+pub fn replace<T: Row, const N: usize>(rows: &mut BoundedList<T, N>, row: T)
+    ensures { map T.Row.plain (items rows.new) ≡ replaced T.Row.key_of (T.Row.plain row) (map T.Row.plain (items rows.old)) }
 {
-    if let Some(place) = queue::find(places, len, row.key()) {
-        places[place] = row;
-    }
+    rows.replace(row);
 }
 
-// Takes out the record with this key, if there is one; how many are left.
-pub fn remove<T: Row>(places: &mut [T], len: usize, key: u32) -> usize
-    requires { len ≤ length places.old }
-    ensures after { map T.Row.plain (take result places.new) ≡ without T.Row.key_of key (map T.Row.plain (take len places.old)) }
-    ensures bound { result ≤ len }
+// Takes out the record with this key, if there is one.
+pub fn remove<T: Row, const N: usize>(rows: &mut BoundedList<T, N>, key: u32)
+    ensures { map T.Row.plain (items rows.new) ≡ without T.Row.key_of key (map T.Row.plain (items rows.old)) }
 {
-    let Some(place) = queue::find(places, len, key) else {
-        return len;
-    };
-    let _ = queue::remove(places, len, place);
-    len - 1
+    let _ = rows.remove(key);
 }

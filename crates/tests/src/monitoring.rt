@@ -1,20 +1,15 @@
 // An item over a process image: samples are compared with the last one queued.
+use crate::common::{good, requested};
 use items::item::{Identity, Mode, MonitoredItem, Settings};
 use sources::image::ProcessImage;
 use std::test::Fail;
-use values::check::RequestedFilter;
-use values::value::{Kind, Sample, Value};
+use values::value::{Kind, Value};
 
 #[test]
 fn samples(rt: HostRuntime) -> Result<(), Fail> {
-    let asked = RequestedFilter {
-        trigger: 1,
-        deadband: 1,
-        deadband_value: 10.0,
-    };
-    let Ok(filter) = asked.check(Kind::Int32, 1) else {
-        return Err(Fail::new("refused"));
-    };
+    let filter = requested(1, 1, 10.0)
+        .check(Kind::Int32, 1)
+        .map_err(|_| "refused")?;
     let settings = Settings {
         client_handle: 7,
         filter,
@@ -30,12 +25,7 @@ fn samples(rt: HostRuntime) -> Result<(), Fail> {
     let mut item = MonitoredItem::new(identity, settings, 2, Mode::Reporting);
     let mut image = ProcessImage::new();
     for value in [100, 106, 112] {
-        let sample = Sample {
-            value: Value::Int32(value),
-            status: 0,
-            time: 0,
-        };
-        assert!(rt; image.write(1, 6, sample).is_ok());
+        assert!(rt; image.write(1, 6, good(Value::Int32(value))).is_ok());
         item.tick(&image);
     }
     let first = item.take_oldest().ok_or("nothing waits")?;

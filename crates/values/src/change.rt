@@ -34,15 +34,13 @@ impl Filter {
         if last.status != new.status {
             return true;
         }
-        match (self.trigger, self.deadband) {
-            (Trigger::Status, _) => false,
-            (Trigger::StatusValueTimestamp, Deadband::None) => {
-                if last.time != new.time {
-                    return true;
-                }
-                self.is_value_change(last.value, new.value)
+        match self.trigger {
+            Trigger::Status => false,
+            Trigger::StatusValue => self.is_value_change(last.value, new.value),
+            Trigger::StatusValueTimestamp => {
+                (self.deadband == Deadband::None && last.time != new.time)
+                    || self.is_value_change(last.value, new.value)
             }
-            _ => self.is_value_change(last.value, new.value),
         }
     }
 }

@@ -19,12 +19,12 @@ impl RequestedFilter {
     pub fn check(&self, kind: Kind, place: u32) -> Result<CheckedFilter, FilterFault>
         ensures { result ≡ checked self.now kind place }
     {
-        let Some(trigger) = Trigger::from_code(self.trigger) else {
-            return Err(FilterFault::MonitoredItemFilterInvalid(place));
-        };
-        let Some(deadband) = Deadband::from_code(self.deadband) else {
-            return Err(FilterFault::DeadbandFilterInvalid(place));
-        };
+        let trigger = Trigger::try_from(self.trigger).map_err(
+            |_| FilterFault::MonitoredItemFilterInvalid(place),
+        )?;
+        let deadband = Deadband::try_from(self.deadband).map_err(
+            |_| FilterFault::DeadbandFilterInvalid(place),
+        )?;
         if !deadband.allows(self.deadband_value) {
             return Err(FilterFault::DeadbandFilterInvalid(place));
         }

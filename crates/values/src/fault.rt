@@ -1,5 +1,7 @@
-ghost use Rattle.std.specs.Prelude.{◌≡◌};
-ghost use Rattle.values.specs.Refusals.{filter_refusal};
+ghost use Rattle.std.specs.Prelude.{◌≡◌, Some};
+ghost use Rattle.values.specs.Refusals.{filter_refusal, filter_fault_name, layer_name};
+
+use std::fmt;
 
 // The layer that a refusal names.
 #[derive(Clone, Copy)]
@@ -11,7 +13,30 @@ pub enum Layer {
     Source,
 }
 
-// What a host is told of a refused call: the refusal's number, its layer, and the place: an id, a node or 0.
+impl Layer {
+    pub fn name(self) -> &'static str
+        ensures { result.now ≡ layer_name self }
+    {
+        match self {
+            Layer::Engine => "engine",
+            Layer::Subscription => "subscription",
+            Layer::Item => "item",
+            Layer::Filter => "filter",
+            Layer::Source => "source",
+        }
+    }
+}
+
+impl fmt::Display for Layer {
+    ghost output = { λ l. Some (layer_name l) };
+
+    fn fmt<W: fmt::Write>(&self, f: &mut fmt::Formatter<W>) -> fmt::Result {
+        f.write_str(self.name())
+    }
+}
+
+// What a host is told of a refused call: the refusal's number, its layer, and the place: an id, a node or 0. The number is
+// what hosts and logs know a refusal by; in the code the fault enums tell refusals apart.
 #[derive(Clone, Copy)]
 pub struct Refusal {
     pub number: u32,
@@ -31,22 +56,34 @@ impl FilterFault {
     pub fn refusal(&self) -> Refusal
         ensures { result ≡ filter_refusal self.now }
     {
-        match self {
-            FilterFault::MonitoredItemFilterInvalid(place) => Refusal {
-                number: 11,
-                layer: Layer::Filter,
-                place: *place,
-            },
-            FilterFault::DeadbandFilterInvalid(place) => Refusal {
-                number: 12,
-                layer: Layer::Filter,
-                place: *place,
-            },
-            FilterFault::FilterNotAllowed(place) => Refusal {
-                number: 13,
-                layer: Layer::Filter,
-                place: *place,
-            },
+        let (number, place) = match *self {
+            FilterFault::MonitoredItemFilterInvalid(place) => (11, place),
+            FilterFault::DeadbandFilterInvalid(place) => (12, place),
+            FilterFault::FilterNotAllowed(place) => (13, place),
+        };
+        Refusal {
+            number,
+            layer: Layer::Filter,
+            place,
         }
+    }
+
+    // The status name of OPC UA Part 4.
+    pub fn name(&self) -> &'static str
+        ensures { result.now ≡ filter_fault_name self.now }
+    {
+        match self {
+            FilterFault::MonitoredItemFilterInvalid(_) => "Bad_MonitoredItemFilterInvalid",
+            FilterFault::DeadbandFilterInvalid(_) => "Bad_DeadbandFilterInvalid",
+            FilterFault::FilterNotAllowed(_) => "Bad_FilterNotAllowed",
+        }
+    }
+}
+
+impl fmt::Display for FilterFault {
+    ghost output = { λ e. Some (filter_fault_name e) };
+
+    fn fmt<W: fmt::Write>(&self, f: &mut fmt::Formatter<W>) -> fmt::Result {
+        write!(f, "{}", self.name())
     }
 }

@@ -1,10 +1,12 @@
 ghost use Rattle.std.specs.Prelude.{◌≡◌};
+ghost use Rattle.values.specs.Codes.{known_code};
 ghost use Rattle.values.specs.Filters.{trigger_of, deadband_of, measured, width_of, allowed};
 
+use crate::code::UnknownCode;
 use crate::value::Kind;
 
 // What a change is looked for in: the status, also the value, also the time.
-#[derive(Clone, Copy)]
+#[derive(Clone, Copy, PartialEq, Eq)]
 pub enum Trigger {
     Status,
     StatusValue,
@@ -12,7 +14,7 @@ pub enum Trigger {
 }
 
 // The deadband type.
-#[derive(Clone, Copy)]
+#[derive(Clone, Copy, PartialEq, Eq)]
 pub enum Deadband {
     None,
     Absolute,
@@ -26,38 +28,41 @@ pub struct Filter {
     pub deadband_value: f64,
 }
 
-impl Trigger {
-    pub(crate) fn from_code(code: u32) -> Option<Trigger>
-        ensures { result ≡ trigger_of code }
-    {
+impl TryFrom<u32> for Trigger {
+    type Error = UnknownCode;
+
+    ghost try_from_gives = { λ code r. r ≡ known_code (trigger_of code) code };
+
+    fn try_from(code: u32) -> Result<Self, UnknownCode> {
         match code {
-            0 => Some(Trigger::Status),
-            1 => Some(Trigger::StatusValue),
-            2 => Some(Trigger::StatusValueTimestamp),
-            _ => None,
+            0 => Ok(Trigger::Status),
+            1 => Ok(Trigger::StatusValue),
+            2 => Ok(Trigger::StatusValueTimestamp),
+            _ => Err(UnknownCode(code)),
+        }
+    }
+}
+
+impl TryFrom<u32> for Deadband {
+    type Error = UnknownCode;
+
+    ghost try_from_gives = { λ code r. r ≡ known_code (deadband_of code) code };
+
+    fn try_from(code: u32) -> Result<Self, UnknownCode> {
+        match code {
+            0 => Ok(Deadband::None),
+            1 => Ok(Deadband::Absolute),
+            _ => Err(UnknownCode(code)),
         }
     }
 }
 
 impl Deadband {
-    pub(crate) fn from_code(code: u32) -> Option<Deadband>
-        ensures { result ≡ deadband_of code }
-    {
-        match code {
-            0 => Some(Deadband::None),
-            1 => Some(Deadband::Absolute),
-            _ => None,
-        }
-    }
-
     // Whether values of the kind have a distance that this type can limit.
     pub(crate) fn measures(self, kind: Kind) -> bool
         ensures { result ≡ measured self kind }
     {
-        match (self, kind) {
-            (Deadband::Absolute, Kind::Boolean) => false,
-            _ => true,
-        }
+        self == Deadband::None || kind != Kind::Boolean
     }
 
     // Whether a deadband value may stand with this type.
@@ -66,12 +71,7 @@ impl Deadband {
     {
         match self {
             Deadband::None => true,
-            Deadband::Absolute => {
-                if !deadband_value.is_finite() {
-                    return false;
-                }
-                !(deadband_value < 0.0)
-            }
+            Deadband::Absolute => deadband_value.is_finite() && !(deadband_value < 0.0),
         }
     }
 }

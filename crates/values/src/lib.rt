@@ -4,6 +4,7 @@
 pub mod change;
 pub mod check;
 pub mod checked;
+pub mod code;
 pub mod fault;
 pub mod filter;
 pub mod laws;

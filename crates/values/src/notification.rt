@@ -1,10 +1,10 @@
 ghost use Rattle.std.specs.Prelude.{◌≡◌};
 ghost use Rattle.values.specs.Notifications.{empty_notification};
 
-use crate::value::{Sample, Value};
+use crate::value::Sample;
 
 // A sample as it goes out: under the item's client handle, marked where samples were lost next to it.
-#[derive(Clone, Copy)]
+#[derive(Clone, Copy, Default)]
 pub struct Notification {
     pub client_handle: u32,
     pub sample: Sample,
@@ -16,14 +16,6 @@ impl Notification {
     pub fn empty() -> Self
         ensures { result ≡ empty_notification }
     {
-        Notification {
-            client_handle: 0,
-            sample: Sample {
-                value: Value::Empty,
-                status: 0,
-                time: 0,
-            },
-            overflow: false,
-        }
+        Self::default()
     }
 }

@@ -1,8 +1,11 @@
 ghost use Rattle.std.specs.Prelude.{◌≡◌};
 ghost use Rattle.values.specs.Kinds.{kind_of, fitting};
+ghost use Rattle.values.specs.Codes.{known_code};
+
+use crate::code::UnknownCode;
 
 // The kinds of value. Their codes, 1, 6 and 11, are the type codes of OPC UA Binary.
-#[derive(Clone, Copy)]
+#[derive(Clone, Copy, PartialEq, Eq)]
 pub enum Kind {
     Boolean,
     Int32,
@@ -10,8 +13,9 @@ pub enum Kind {
 }
 
 // A value is empty or of one kind.
-#[derive(Clone, Copy)]
+#[derive(Clone, Copy, Default)]
 pub enum Value {
+    #[default]
     Empty,
     Boolean(bool),
     Int32(i32),
@@ -19,23 +23,24 @@ pub enum Value {
 }
 
 // A value with its status code (0 is Good) and its source time, in steps of 100 ns since 1601-01-01 UTC.
-#[derive(Clone, Copy)]
+#[derive(Clone, Copy, Default)]
 pub struct Sample {
     pub value: Value,
     pub status: u32,
     pub time: i64,
 }
 
-impl Kind {
-    // The kind with the code; any other number is no kind.
-    pub fn from_code(code: u32) -> Option<Kind>
-        ensures { result ≡ kind_of code }
-    {
+impl TryFrom<u32> for Kind {
+    type Error = UnknownCode;
+
+    ghost try_from_gives = { λ code r. r ≡ known_code (kind_of code) code };
+
+    fn try_from(code: u32) -> Result<Self, UnknownCode> {
         match code {
-            1 => Some(Kind::Boolean),
-            6 => Some(Kind::Int32),
-            11 => Some(Kind::Double),
-            _ => None,
+            1 => Ok(Kind::Boolean),
+            6 => Ok(Kind::Int32),
+            11 => Ok(Kind::Double),
+            _ => Err(UnknownCode(code)),
         }
     }
 }
@@ -45,12 +50,12 @@ impl Value {
     pub fn fits(&self, kind: Kind) -> bool
         ensures { result ≡ fitting kind self.now }
     {
-        match (kind, self) {
-            (_, Value::Empty) => true,
-            (Kind::Boolean, Value::Boolean(_)) => true,
-            (Kind::Int32, Value::Int32(_)) => true,
-            (Kind::Double, Value::Double(_)) => true,
-            _ => false,
-        }
+        matches!(
+            (kind, self),
+            (_, Value::Empty)
+                | (Kind::Boolean, Value::Boolean(_))
+                | (Kind::Int32, Value::Int32(_))
+                | (Kind::Double, Value::Double(_))
+        )
     }
 }

@@ -25,6 +25,7 @@ use message_calls::republish::republish;
 use messages::message::Message;
 use messages::response::Response;
 use model::parameters::MonitoringParameters;
+use model::revised::{CreatedItem, CreatedSubscription, RevisedItem};
 use model::state::EngineState;
 use numbers::numbers::Numbers;
 use publishing::tick::tick;
@@ -34,6 +35,7 @@ use subscription_calls::create_subscription::create_subscription;
 use subscription_calls::delete_subscription::delete_subscription;
 use subscription_calls::modify_subscription::modify_subscription;
 use subscription_calls::set_publishing_mode::set_publishing_mode;
+use subscriptions::parameters::{RevisedSubscription, SubscriptionParameters};
 
 impl Engine {
     // A new engine, whose first id is `first_id`, or 1 where that is 0.
@@ -45,48 +47,28 @@ impl Engine {
         }
     }
 
-    // A new subscription: its id, its publishing interval in ticks, its keep-alive count and its lifetime count.
+    // A new subscription: its id and its revised parameters.
     pub fn create_subscription(
         &mut self,
-        milliseconds: i32,
-        keep_alive: u32,
-        lifetime: u32,
-        limit: u32,
+        parameters: SubscriptionParameters,
         enabled: bool,
-    ) -> Result<(u32, u32, u32, u32), ServiceFault>
-        ensures after { state_in self.new ≡ (create_subscription (state_in self.old) milliseconds keep_alive lifetime limit enabled).state }
-        ensures value { result ≡ (create_subscription (state_in self.old) milliseconds keep_alive lifetime limit enabled).answer }
+    ) -> Result<CreatedSubscription, ServiceFault>
+        ensures after { state_in self.new ≡ (create_subscription (state_in self.old) parameters enabled).state }
+        ensures value { result ≡ (create_subscription (state_in self.old) parameters enabled).answer }
     {
-        create_subscription(
-            &mut self.state,
-            milliseconds,
-            keep_alive,
-            lifetime,
-            limit,
-            enabled,
-        )
+        create_subscription(&mut self.state, parameters, enabled)
     }
 
-    // Other figures for a subscription: its publishing interval in ticks, its keep-alive count and its lifetime count.
+    // Other parameters for a subscription, revised.
     pub fn modify_subscription(
         &mut self,
         id: u32,
-        milliseconds: i32,
-        keep_alive: u32,
-        lifetime: u32,
-        limit: u32,
-    ) -> Result<(u32, u32, u32), ServiceFault>
-        ensures after { state_in self.new ≡ (modify_subscription (state_in self.old) id milliseconds keep_alive lifetime limit).state }
-        ensures value { result ≡ (modify_subscription (state_in self.old) id milliseconds keep_alive lifetime limit).answer }
+        parameters: SubscriptionParameters,
+    ) -> Result<RevisedSubscription, ServiceFault>
+        ensures after { state_in self.new ≡ (modify_subscription (state_in self.old) id parameters).state }
+        ensures value { result ≡ (modify_subscription (state_in self.old) id parameters).answer }
     {
-        modify_subscription(
-            &mut self.state,
-            id,
-            milliseconds,
-            keep_alive,
-            lifetime,
-            limit,
-        )
+        modify_subscription(&mut self.state, id, parameters)
     }
 
     // Publishing is enabled or disabled.
@@ -111,7 +93,7 @@ impl Engine {
         delete_subscription(&mut self.state, id, responses)
     }
 
-    // A new item on a node that the source knows: its id, its sampling interval in ticks and its queue size.
+    // A new item on a node that the source knows: its id and its revised parameters.
     pub fn create_item<S: Source>(
         &mut self,
         source: &S,
@@ -119,7 +101,7 @@ impl Engine {
         node: u32,
         mode: u32,
         parameters: &MonitoringParameters,
-    ) -> Result<(u32, u32, u32), ServiceFault>
+    ) -> Result<CreatedItem, ServiceFault>
         ensures after { state_in self.new ≡ (create_item (S.Source.stands source.now) (state_in self.old) subscription node mode parameters.now).state }
         ensures value { result ≡ (create_item (S.Source.stands source.now) (state_in self.old) subscription node mode parameters.now).answer }
     {
@@ -133,13 +115,13 @@ impl Engine {
         )
     }
 
-    // Other settings for an item, which starts again: its sampling interval in ticks and its queue size.
+    // Other settings for an item, which starts again: its revised parameters.
     pub fn modify_item(
         &mut self,
         subscription: u32,
         item: u32,
         parameters: &MonitoringParameters,
-    ) -> Result<(u32, u32), ServiceFault>
+    ) -> Result<RevisedItem, ServiceFault>
         ensures after { state_in self.new ≡ (modify_item (state_in self.old) subscription item parameters.now).state }
         ensures value { result ≡ (modify_item (state_in self.old) subscription item parameters.now).answer }
     {

@@ -5,8 +5,8 @@ ghost use Rattle.items.specs.Item.{item_of, ticked};
 ghost use Rattle.items.specs.Keys.{id_of};
 ghost use Rattle.item_table.specs.Table.{items_of, all_below, item_in, others};
 
-use crate::passes;
 use crate::table::ItemTable;
+use fifo::bounded::BoundedList;
 use items::item::{Identity, Mode, MonitoredItem, Settings};
 use sources::source::Source;
 use values::checked::CheckedFilter;
@@ -44,8 +44,7 @@ impl ItemTable {
         ensures { items_of result ≡ [] }
     {
         ItemTable {
-            items: [blank(); 32],
-            len: 0,
+            rows: BoundedList::with_blank(blank()),
         }
     }
 
@@ -53,17 +52,7 @@ impl ItemTable {
         ensures value { result ≡ (length (items_of self.now) == 32) }
         ensures room { result ≡ false → length (items_of self.now) < 32 }
     {
-        tables::in_use(&self.items, self.len).len() == 32
-    }
-
-    fn push(&mut self, item: MonitoredItem)
-        requires room { length (items_of self.old) < 32 }
-        requires above { all_below item.identity.id (items_of self.old) ≡ true }
-        requires id { 0 < item.identity.id }
-        ensures { items_of self.new ≡ items_of self.old ++ item_of item ∷ [] }
-    {
-        tables::push(&mut self.items, self.len, item);
-        self.len += 1;
+        self.rows.is_full()
     }
 
     // Adds an item whose id is above all others'.
@@ -73,45 +62,41 @@ impl ItemTable {
         requires id { 0 < item.identity.id }
         ensures { items_of self.new ≡ items_of self.old ++ item_of item ∷ [] }
     {
-        self.push(item);
+        tables::push(&mut self.rows, item);
     }
 
     // The item with the id, where it is of the subscription.
     pub fn find(&self, subscription: u32, id: u32) -> Option<MonitoredItem>
         ensures { option_map item_of result ≡ item_in subscription id (items_of self.now) }
     {
-        let item = tables::lookup(&self.items, self.len, id)?;
-        if item.identity.subscription == subscription {
-            Some(item)
-        } else {
-            None
-        }
+        tables::lookup(&self.rows, id).filter(|item| item.identity.subscription == subscription)
     }
 
     // Puts the item in the place of the one with its id.
     pub fn replace(&mut self, item: MonitoredItem)
         ensures { items_of self.new ≡ replaced id_of (item_of item) (items_of self.old) }
     {
-        tables::replace(&mut self.items, self.len, item);
+        tables::replace(&mut self.rows, item);
     }
 
     pub fn remove(&mut self, id: u32)
         ensures { items_of self.new ≡ without id_of id (items_of self.old) }
     {
-        self.len = tables::remove(&mut self.items, self.len, id);
+        tables::remove(&mut self.rows, id);
     }
 
     // Removes all items of the subscription.
     pub fn remove_all(&mut self, subscription: u32)
         ensures { items_of self.new ≡ others subscription (items_of self.old) }
     {
-        self.len = passes::keep_others(&mut self.items, self.len, subscription);
+        self.rows
+            .retain(|item| item.identity.subscription != subscription);
     }
 
     // The sampling pass of a tick, over any source.
     pub fn tick<S: Source>(&mut self, source: &S)
         ensures { items_of self.new ≡ map (ticked (S.Source.stands source.now)) (items_of self.old) }
     {
-        passes::tick_all(&mut self.items, self.len, source);
+        self.rows.change_each(|item| item.tick(source));
     }
 }

@@ -5,23 +5,16 @@ ghost use Rattle.messages.specs.Messages.{number_of};
 ghost use Rattle.retransmission.specs.Kept.{kept_in, room_for, keeping};
 
 use crate::kept::RetransmissionQueue;
-use fifo::queue;
+use fifo::bounded::BoundedList;
 use messages::message::Message;
 use numbers::numbers::Numbers;
-use values::notification::Notification;
 
 impl RetransmissionQueue {
     pub(crate) fn new() -> Self
         ensures { kept_in result ≡ [] }
     {
-        let blank = Message {
-            number: 0,
-            count: 0,
-            notifications: [Notification::empty(); 16],
-        };
         RetransmissionQueue {
-            slots: [blank; 8],
-            len: 0,
+            messages: BoundedList::new(),
         }
     }
 
@@ -29,7 +22,7 @@ impl RetransmissionQueue {
     pub(crate) fn find(&self, number: u32) -> Option<Message>
         ensures { result ≡ lookup number_of number (kept_in self.now) }
     {
-        queue::lookup(&self.slots, self.len, number)
+        self.messages.lookup(number)
     }
 
     // The numbers of the messages, oldest first.
@@ -37,8 +30,8 @@ impl RetransmissionQueue {
         ensures { items result ≡ map number_of (kept_in self.now) }
     {
         let mut numbers = Numbers::new();
-        for i in 0..self.len {
-            numbers.push(self.slots[i].number);
+        for message in self.messages.as_slice() {
+            numbers.push(message.number);
         }
         numbers
     }
@@ -48,12 +41,7 @@ impl RetransmissionQueue {
         ensures value { result ≡ is_some (lookup number_of number (kept_in self.old)) }
         ensures after { kept_in self.new ≡ without number_of number (kept_in self.old) }
     {
-        let Some(i) = queue::find(&self.slots, self.len, number) else {
-            return false;
-        };
-        let _ = queue::remove(&mut self.slots, self.len, i);
-        self.len -= 1;
-        true
+        self.messages.remove(number).is_some()
     }
 
     // An earlier message of the number goes, or else the oldest of eight.
@@ -61,14 +49,10 @@ impl RetransmissionQueue {
         ensures after { kept_in self.new ≡ room_for number (kept_in self.old) }
         ensures room { length (kept_in self.new) < 8 }
     {
-        if let Some(i) = queue::find(&self.slots, self.len, number) {
-            let _ = queue::remove(&mut self.slots, self.len, i);
-            self.len -= 1;
-            return;
-        }
-        if self.len == 8 {
-            let _ = queue::pop(&mut self.slots, self.len);
-            self.len -= 1;
+        if let Some(i) = self.messages.find(number) {
+            let _ = self.messages.remove_at(i);
+        } else if self.messages.is_full() {
+            let _ = self.messages.pop();
         }
     }
 
@@ -77,7 +61,6 @@ impl RetransmissionQueue {
         ensures { kept_in self.new ≡ keeping message.now (kept_in self.old) }
     {
         self.make_room(message.number);
-        queue::push(&mut self.slots, self.len, *message);
-        self.len += 1;
+        self.messages.push(*message);
     }
 }

@@ -7,8 +7,8 @@ ghost use Rattle.retransmission.specs.Rows.{Kept, shown, subscription_of, row_wi
 ghost use Rattle.std.proofs.Common.{rules};
 
 use crate::kept::{Retransmission, RetransmissionQueue, RetransmissionTable};
-use fifo::queue;
-use fifo::queue::Keyed;
+use fifo::bounded::BoundedList;
+use fifo::keyed::Keyed;
 use messages::message::Message;
 use numbers::numbers::Numbers;
 use tables::Row;
@@ -55,40 +55,13 @@ impl Retransmission {
     }
 }
 
-// Keeps one more message of the subscription, in its row among the first `len`.
-fn keep_among(places: &mut [Retransmission], len: usize, subscription: u32, message: &Message)
-    requires { len ≤ length places.old }
-    ensures { map shown (take len places.new) ≡ keeping_for subscription message.now (map shown (take len places.old)) }
-{
-    if let Some(i) = queue::find(places, len, subscription) {
-        places[i].keep(message);
-    }
-}
-
-// Drops an acknowledged message of the subscription, in its row among the first `len`.
-fn acknowledge_among(
-    places: &mut [Retransmission],
-    len: usize,
-    subscription: u32,
-    number: u32,
-) -> bool
-    requires { len ≤ length places.old }
-    ensures value { result ≡ is_some (lookup number_of number (kept_of subscription (map shown (take len places.old)))) }
-    ensures after { map shown (take len places.new) ≡ acknowledging subscription number (map shown (take len places.old)) }
-{
-    let Some(i) = queue::find(places, len, subscription) else {
-        return false;
-    };
-    places[i].acknowledge(number)
-}
-
 impl RetransmissionTable {
     pub fn new() -> Self
         ensures { rows result ≡ [] }
     {
+        let blank = Retransmission::new(0);
         RetransmissionTable {
-            places: [Retransmission::new(0); 4],
-            len: 0,
+            rows: BoundedList::with_blank(blank),
         }
     }
 
@@ -96,19 +69,14 @@ impl RetransmissionTable {
         ensures value { result ≡ nat_lt (length (rows self.now)) 4 }
         ensures room { result ≡ true → length (rows self.now) < 4 }
     {
-        tables::in_use(&self.places, self.len).len() < 4
+        tables::in_use(&self.rows).len() < 4
     }
 
     fn push(&mut self, subscription: u32)
         requires { length (rows self.old) < 4 }
         ensures { rows self.new ≡ rows self.old ++ row_with subscription [] ∷ [] }
     {
-        tables::push(
-            &mut self.places,
-            self.len,
-            Retransmission::new(subscription),
-        );
-        self.len += 1;
+        tables::push(&mut self.rows, Retransmission::new(subscription));
     }
 
     // A row for a new subscription, of which nothing is kept; false where four have one.
@@ -127,14 +95,16 @@ impl RetransmissionTable {
     pub fn close(&mut self, subscription: u32)
         ensures { rows self.new ≡ without subscription_of subscription (rows self.old) }
     {
-        self.len = tables::remove(&mut self.places, self.len, subscription);
+        tables::remove(&mut self.rows, subscription);
     }
 
     // Keeps one more message of the subscription.
     pub fn keep(&mut self, subscription: u32, message: &Message)
         ensures { rows self.new ≡ keeping_for subscription message.now (rows self.old) }
     {
-        keep_among(&mut self.places, self.len, subscription, message);
+        if let Some(i) = self.rows.find(subscription) {
+            self.rows.change(i, |row| row.keep(message));
+        }
     }
 
     // Drops an acknowledged message; false where none of the subscription has the number.
@@ -142,14 +112,17 @@ impl RetransmissionTable {
         ensures value { result ≡ is_some (lookup number_of number (kept_of subscription (rows self.old))) }
         ensures after { rows self.new ≡ acknowledging subscription number (rows self.old) }
     {
-        acknowledge_among(&mut self.places, self.len, subscription, number)
+        match self.rows.find(subscription) {
+            Some(i) => self.rows.change(i, |row| row.acknowledge(number)),
+            None => false,
+        }
     }
 
     // The subscription's message with this number.
     pub fn find(&self, subscription: u32, number: u32) -> Option<Message>
         ensures { result ≡ lookup number_of number (kept_of subscription (rows self.now)) }
     {
-        let row = tables::get(&self.places, self.len, subscription)?;
+        let row = tables::get(&self.rows, subscription)?;
         row.queue.find(number)
     }
 
@@ -157,7 +130,7 @@ impl RetransmissionTable {
     pub fn numbers(&self, subscription: u32) -> Numbers
         ensures { items result ≡ map number_of (kept_of subscription (rows self.now)) }
     {
-        match tables::get(&self.places, self.len, subscription) {
+        match tables::get(&self.rows, subscription) {
             Some(row) => row.queue.numbers(),
             None => Numbers::new(),
         }

@@ -1,8 +1,8 @@
 ghost use Rattle.std.specs.Prelude.{◌≡◌, ℕ, ◌≤◌, true, false, [], is_ok, IfOk, Some};
-ghost use Rattle.sources.specs.Table.{has_room, put};
+ghost use Rattle.sources.specs.Table.{has_room};
 ghost use Rattle.sources.specs.Rows.{node_of_expiry, day_fits};
 ghost use Rattle.sources.specs.Image.{answer, rows_after};
-ghost use Rattle.sources.specs.Certificates.{certificate_rows, today_of, Unchanged, certificates_stand, standing_of_expiry, entering, stands_with, stands_after_entry, setting_today, today_after};
+ghost use Rattle.sources.specs.Certificates.{certificate_rows, today_of, Unchanged, certificates_stand, standing_of_expiry, entering, stands_after_entry, setting_today, today_after};
 ghost use Rattle.std.proofs.Common.{rules, arith};
 
 use crate::certificates::Certificates;
@@ -10,7 +10,7 @@ use crate::fault::SourceFault;
 use crate::rows::Expiry;
 use crate::source::{Source, Standing};
 use crate::table;
-use fifo::queue;
+use fifo::bounded::BoundedList;
 use values::value::{Kind, Sample, Value};
 
 const LAST_DAY: u32 = 1_000_000;
@@ -25,11 +25,7 @@ impl Certificates {
         ensures today { today_of result ≡ 0 }
     {
         Certificates {
-            rows: [Expiry {
-                node: 0,
-                end_day: 0,
-            }; 64],
-            count: 0,
+            rows: BoundedList::new(),
             today: 0,
         }
     }
@@ -38,7 +34,7 @@ impl Certificates {
     pub fn rows(&self) -> &[Expiry]
         ensures { result.now ≡ certificate_rows self.now }
     {
-        &self.rows[0..self.count]
+        self.rows.as_slice()
     }
 
     // The row that an entry makes.
@@ -46,7 +42,7 @@ impl Certificates {
         ensures value { result ≡ entering (certificate_rows self.now) node end_day }
         ensures fits { IfOk result (λ row. (has_room node_of_expiry row.node (certificate_rows self.now) ≡ true) × (day_fits row ≡ true)) }
     {
-        if !table::has_room(&self.rows, self.count, node) {
+        if !table::has_room(&self.rows, node) {
             return Err(SourceFault::TableFull(node));
         }
         if end_day > LAST_DAY {
@@ -55,17 +51,8 @@ impl Certificates {
         Ok(Expiry { node, end_day })
     }
 
-    fn put(&mut self, row: Expiry)
-        requires room { has_room node_of_expiry row.node (certificate_rows self.old) ≡ true }
-        requires fits { day_fits row ≡ true }
-        ensures rows { certificate_rows self.new ≡ put node_of_expiry row (certificate_rows self.old) }
-        ensures today { today_of self.new ≡ today_of self.old }
-        ensures stands { (n : ℕ) → certificates_stand (today_of self.new) (certificate_rows self.new) n ≡ stands_with (today_of self.old) row n (certificates_stand (today_of self.old) (certificate_rows self.old) n) }
-    {
-        self.count = table::put_row(&mut self.rows, self.count, row);
-    }
-
     // Replaces the node's row or adds one.
+    #[tactic(auto, using(crate::specs::Puts::every_put, crate::specs::Puts::lookup_put))]
     pub fn enter(&mut self, node: u32, end_day: u32) -> Result<(), SourceFault>
         ensures value { result ≡ answer (entering (certificate_rows self.old) node end_day) }
         ensures rows { certificate_rows self.new ≡ rows_after node_of_expiry (entering (certificate_rows self.old) node end_day) (certificate_rows self.old) }
@@ -74,7 +61,7 @@ impl Certificates {
         ensures refused { is_ok result ≡ false → Unchanged self.old self.new }
     {
         let row = self.row_for(node, end_day)?;
-        self.put(row);
+        table::put_row(&mut self.rows, row);
         Ok(())
     }
 
@@ -98,17 +85,17 @@ impl Certificates {
 fn shown(row: &Expiry, today: u32) -> Standing
     requires end { row.now.end_day ≤ 1000000 }
     requires day { today ≤ 1000000 }
-    ensures { result ≡ standing_of_expiry today (Some row.now) }
+    ensures { Some result ≡ standing_of_expiry today (Some row.now) }
 {
     let days_left = row.end_day as i32 - today as i32;
-    Standing::Known(
-        Kind::Int32,
-        Sample {
+    Standing {
+        kind: Kind::Int32,
+        sample: Sample {
             value: Value::Int32(days_left),
             status: 0,
             time: today as i64 * DAY_STEPS,
         },
-    )
+    }
 }
 
 impl Source for Certificates {
@@ -116,10 +103,9 @@ impl Source for Certificates {
 
     ghost sound = { first_of (Prim.search rules, Prim.grind (arith, Self.row.coded.inj)) };
 
-    fn query(&self, node: u32) -> Standing {
-        match queue::lookup(&self.rows, self.count, node) {
-            Some(row) => shown(&row, self.today),
-            None => Standing::Unknown,
-        }
+    #[tactic(auto, using(crate::specs::Puts::every_lookup))]
+    fn query(&self, node: u32) -> Option<Standing> {
+        let row = self.rows.lookup(node)?;
+        Some(shown(&row, self.today))
     }
 }

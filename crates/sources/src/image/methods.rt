@@ -1,8 +1,8 @@
 ghost use Rattle.std.specs.Prelude.{◌≡◌, ℕ, true, false, [], is_ok, IfOk, Some, None, Option, refl};
 ghost use Rattle.values.specs.Kinds.{kind_of};
-ghost use Rattle.sources.specs.Table.{has_room, put};
+ghost use Rattle.sources.specs.Table.{has_room};
 ghost use Rattle.sources.specs.Rows.{node_of_row, row_fits};
-ghost use Rattle.sources.specs.Image.{image_rows, image_stands, Unchanged, fitting_kind, writing, answer, rows_after, stands_with, stands_after_write, standing_of_row};
+ghost use Rattle.sources.specs.Image.{image_rows, image_stands, Unchanged, fitting_kind, writing, answer, rows_after, stands_after_write, standing_of_row};
 ghost use Rattle.fifo.specs.Lists;
 ghost use Rattle.sources.specs.declared.rows.Row.{Row};
 ghost use Rattle.sources.specs.Standings.{Sound};
@@ -13,19 +13,16 @@ use crate::image::ProcessImage;
 use crate::rows::Row;
 use crate::source::{Source, Standing};
 use crate::table;
-use fifo::queue;
-use values::value::{Kind, Sample, Value};
+use fifo::bounded::BoundedList;
+use values::value::{Kind, Sample};
 
 // The kind with the code, where the sample's value is empty or of that kind.
 fn fitting_kind(code: u32, sample: &Sample) -> Option<Kind>
     ensures { result ≡ fitting_kind (kind_of code) sample.now }
 {
-    let kind = Kind::from_code(code)?;
-    if sample.value.fits(kind) {
-        Some(kind)
-    } else {
-        None
-    }
+    Kind::try_from(code)
+        .ok()
+        .filter(|kind| sample.value.fits(*kind))
 }
 
 impl ProcessImage {
@@ -36,15 +33,10 @@ impl ProcessImage {
         let blank = Row {
             node: 0,
             kind: Kind::Boolean,
-            sample: Sample {
-                value: Value::Empty,
-                status: 0,
-                time: 0,
-            },
+            sample: Sample::default(),
         };
         ProcessImage {
-            rows: [blank; 64],
-            count: 0,
+            rows: BoundedList::with_blank(blank),
         }
     }
 
@@ -53,25 +45,15 @@ impl ProcessImage {
         ensures value { result ≡ writing (image_rows self.now) node code sample }
         ensures fits { IfOk result (λ row. (has_room node_of_row row.node (image_rows self.now) ≡ true) × (row_fits row ≡ true)) }
     {
-        if !table::has_room(&self.rows, self.count, node) {
+        if !table::has_room(&self.rows, node) {
             return Err(SourceFault::TableFull(node));
         }
-        match fitting_kind(code, &sample) {
-            Some(kind) => Ok(Row { node, kind, sample }),
-            None => Err(SourceFault::TypeMismatch(node)),
-        }
-    }
-
-    fn put(&mut self, row: Row)
-        requires room { has_room node_of_row row.node (image_rows self.old) ≡ true }
-        requires fits { row_fits row ≡ true }
-        ensures rows { image_rows self.new ≡ put node_of_row row (image_rows self.old) }
-        ensures stands { (n : ℕ) → image_stands (image_rows self.new) n ≡ stands_with row n (image_stands (image_rows self.old) n) }
-    {
-        self.count = table::put_row(&mut self.rows, self.count, row);
+        let kind = fitting_kind(code, &sample).ok_or(SourceFault::TypeMismatch(node))?;
+        Ok(Row { node, kind, sample })
     }
 
     // Replaces the node's row or adds one. The kind is the one given here, so a node's kind may change.
+    #[tactic(auto, using(crate::specs::Puts::every_put, crate::specs::Puts::lookup_put))]
     pub fn write(&mut self, node: u32, code: u32, sample: Sample) -> Result<(), SourceFault>
         ensures value { result ≡ answer (writing (image_rows self.old) node code sample) }
         ensures rows { image_rows self.new ≡ rows_after node_of_row (writing (image_rows self.old) node code sample) (image_rows self.old) }
@@ -79,7 +61,7 @@ impl ProcessImage {
         ensures refused { is_ok result ≡ false → Unchanged self.old self.new }
     {
         let row = self.row_for(node, code, sample)?;
-        self.put(row);
+        table::put_row(&mut self.rows, row);
         Ok(())
     }
 }
@@ -97,10 +79,11 @@ impl Source for ProcessImage {
         in
         at (Lists.lookup node_of_row n (image_rows s)) refl };
 
-    fn query(&self, node: u32) -> Standing {
-        match queue::lookup(&self.rows, self.count, node) {
-            Some(row) => Standing::Known(row.kind, row.sample),
-            None => Standing::Unknown,
-        }
+    fn query(&self, node: u32) -> Option<Standing> {
+        let row = self.rows.lookup(node)?;
+        Some(Standing {
+            kind: row.kind,
+            sample: row.sample,
+        })
     }
 }

@@ -5,15 +5,17 @@ ghost use Rattle.subscriptions.specs.Keys.{figures_of, id_of};
 ghost use Rattle.subscription_table.specs.Slots.{slots, blank};
 
 use crate::table::Table;
+use fifo::bounded::BoundedList;
+use subscriptions::parameters::SubscriptionParameters;
 use subscriptions::subscription::Subscription;
 
 impl Table {
     pub fn new() -> Self
         ensures { slots result ≡ [] }
     {
+        let blank = Subscription::new(0, SubscriptionParameters::default(), false);
         Table {
-            places: [Subscription::new(0, 0, 0, 0, 0, false); 4],
-            len: 0,
+            rows: BoundedList::with_blank(blank),
         }
     }
 
@@ -21,7 +23,7 @@ impl Table {
         ensures value { result ≡ length (slots self.now) }
         ensures bound { result ≤ 4 }
     {
-        tables::in_use(&self.places, self.len).len()
+        tables::in_use(&self.rows).len()
     }
 
     // Whether no slot is occupied.
@@ -44,7 +46,7 @@ impl Table {
         requires { i < length (slots self.now) }
         ensures { result.figures ≡ slice_index_or (slots self.now) i blank }
     {
-        tables::at(&self.places, self.len, i)
+        tables::at(&self.rows, i)
     }
 
     // Puts `s` into the slot at `i`.
@@ -52,7 +54,7 @@ impl Table {
         requires { i < length (slots self.old) }
         ensures { slots self.new ≡ slice_set (slots self.old) i s.figures }
     {
-        tables::put(&mut self.places, self.len, i, s);
+        tables::put(&mut self.rows, i, s);
     }
 
     // Occupies one more slot.
@@ -60,28 +62,27 @@ impl Table {
         requires { length (slots self.old) < 4 }
         ensures { slots self.new ≡ slots self.old ++ s.figures ∷ [] }
     {
-        tables::push(&mut self.places, self.len, s);
-        self.len += 1;
+        tables::push(&mut self.rows, s);
     }
 
     // The subscription with this id.
     pub fn lookup(&self, id: u32) -> Option<Subscription>
         ensures { option_map figures_of result ≡ lookup id_of id (slots self.now) }
     {
-        tables::lookup(&self.places, self.len, id)
+        tables::lookup(&self.rows, id)
     }
 
     // Puts `s` in the place of the subscription with its id, if there is one.
     pub fn replace(&mut self, s: Subscription)
         ensures { slots self.new ≡ replaced id_of s.figures (slots self.old) }
     {
-        tables::replace(&mut self.places, self.len, s);
+        tables::replace(&mut self.rows, s);
     }
 
     // Frees the slot of the subscription with this id, if there is one.
     pub fn remove(&mut self, id: u32)
         ensures { slots self.new ≡ without id_of id (slots self.old) }
     {
-        self.len = tables::remove(&mut self.places, self.len, id);
+        tables::remove(&mut self.rows, id);
     }
 }

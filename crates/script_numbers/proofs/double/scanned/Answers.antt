@@ -1,15 +1,11 @@
-use Rattle.std.proofs.Common.{◌+◌, drop, fold, sym, ap, ◌∙◌, arith}
-use Rattle.std.proofs.lemmas.List.{at_drop_more, at_drop_all}
+use Rattle.std.proofs.Common.{refl, rules, tests}
+use Rattle.std.proofs.lemmas.Iterator.{YieldsList-from_slice}
 use Rattle.script_numbers.specs.Doubles.{step}
+use Rattle.script_numbers.specs.declared.double.Reading.TheVariants.{Start}
+use Rattle.script_numbers.proofs.Folds.{tried}
 use Rattle.script_numbers.proofs.double.scanned.Goals as goal
 
-pub loop-byte-preserved : goal.loop-byte-preserved
-loop-byte-preserved c =
-    let xs = c.args.digits.now in
-    let i = c.loop-byte.byte-index in
-    ap (λ s. fold step s (drop (i + 1) xs)) c.next-reading.ensures
-    ∙ sym (at_drop_more (fold step c.loop-byte.reading) xs i 0 (omega arith))
-    ∙ c.loop-byte.invariant
-
 pub returns : goal.returns
-returns c = sym (at_drop_all (fold step c.loop-byte.reading) c.args.digits.now c.loop-byte.byte-index (omega arith)) ∙ c.loop-byte.invariant
+returns c =
+    let xs = c.args.digits.now in
+    tried _ step (λ x. x.now) _ _ (λ x. refl) (λ a x r q e. search (rules, tests)) _ _ _ Start c.try_fold.result xs c.try_fold.ensures.ran (YieldsList-from_slice xs cc)

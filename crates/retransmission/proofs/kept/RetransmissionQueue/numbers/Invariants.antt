@@ -4,5 +4,5 @@ use Rattle.messages.specs.Messages.{number_of}
 use Rattle.retransmission.proofs.kept.RetransmissionQueue.numbers.Given as goal
 
 -- the numbers so far
-abbrev pub invariant-loop-i : goal.invariant-loop-i
-invariant-loop-i l = items l.numbers ≡ map number_of (take l.i l.self.slots)
+abbrev pub invariant-loop-message : goal.invariant-loop-message
+invariant-loop-message l = items l.numbers ≡ map number_of (take l.message-index l.message-items)

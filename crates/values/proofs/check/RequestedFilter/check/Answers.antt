@@ -1,8 +1,8 @@
-use Rattle.std.proofs.Common.{sym}
+use Rattle.std.proofs.Common.{sym, rules}
 use Rattle.values.proofs.Passing.{accepted}
 use Rattle.values.proofs.check.RequestedFilter.check.Goals as goal
 
 pub returns : goal.returns
 returns c =
-    accepted c.args.self.now c.args.kind c.args.place c.in-Some.trigger c.in-Some-from_code.deadband _
-    (sym c.in-Some.ensures) (sym c.in-Some-from_code.ensures) (sym c.if-not-measures.ensures)
+    accepted c.args.self.now c.args.kind c.args.place c.in_ok-trigger.trigger c.in_ok-deadband.deadband _
+    (search rules) (search rules) (sym c.if-not-measures.ensures)

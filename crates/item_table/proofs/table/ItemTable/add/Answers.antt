@@ -1,0 +1,10 @@
+use Rattle.std.proofs.Common.{ap, ◌∙◌}
+use Rattle.items.specs.Item.{item_of}
+use Rattle.item_table.specs.Rising.{rising}
+use Rattle.item_table.specs.Table.{items_of}
+use Rattle.item_table.proofs.Orders.{rising_push}
+use Rattle.item_table.proofs.table.ItemTable.add.Goals as goal
+
+pub invariant_of-self : goal.invariant_of-self
+invariant_of-self c =
+    let t = c.args.self.now in record { ordered = ap rising c.push.ensures ∙ rising_push 0 (item_of c.args.item) (items_of t) t.ordered c.requires.id c.requires.above }
