@@ -8,7 +8,7 @@ use std::fmt;
 use values::fault::{FilterFault, Layer, Refusal};
 
 // Why a call is refused: a fault of the service itself, or an item's or a source's fault as it came. Each fault enum has a
-// `refusal` and a `name` of its own, and no trait stands over them: no code takes a fault of any kind.
+// `refusal` and a `name` of its own, and no trait stands over them: each is a table, and only tests take a fault of any kind.
 #[derive(Clone, Copy)]
 pub enum ServiceFault {
     ListTooShort,

@@ -8,24 +8,13 @@ use model::parameters::MonitoringParameters;
 use sources::image::ProcessImage;
 use subscriptions::parameters::SubscriptionParameters;
 use values::check::RequestedFilter;
-use values::notification::Notification;
 use values::value::{Sample, Value};
 
 // Node 1 shows an Int32, node 2 a Boolean.
 fn plant() -> ProcessImage {
     let mut image = ProcessImage::new();
-    let number = Sample {
-        value: Value::Int32(5),
-        status: 0,
-        time: 0,
-    };
-    let flag = Sample {
-        value: Value::Boolean(true),
-        status: 0,
-        time: 0,
-    };
-    let _ = image.write(1, 6, number);
-    let _ = image.write(2, 1, flag);
+    let _ = image.write(1, 6, Sample::good(Value::Int32(5), 0));
+    let _ = image.write(2, 1, Sample::good(Value::Boolean(true), 0));
     image
 }
 
@@ -53,7 +42,7 @@ fn parameters(trigger: u32, deadband: u32, deadband_value: f64) -> MonitoringPar
     }
 }
 
-// The number and place of the refusal, if there is one.
+// The number and place of the refusal, if there is one. Not shared with the crate `tests`: a crate for four lines.
 fn refused<T: Drop>(res: Result<T, ServiceFault>) -> Option<(u32, u32)> {
     let refusal = res.err()?.refusal();
     Some((refusal.number, refusal.place))
@@ -141,11 +130,7 @@ fn sent_kept_and_acknowledged(rt: HostRuntime) {
     let response = responses[0];
     assert!(rt; response.kind.letter() == 'N' && response.handle == 1 && response.number == 1);
     assert!(rt; response.shown_notifications().len() == 1 && response.shown_numbers().len() == 1);
-    let mut message = Message {
-        number: 0,
-        count: 0,
-        notifications: [Notification::empty(); 16],
-    };
+    let mut message = Message::default();
     assert!(rt; refused(engine.republish(100, 1, &mut message)).is_none());
     assert!(rt; message.number == 1 && message.carried().len() == 1);
     let acknowledgements = [

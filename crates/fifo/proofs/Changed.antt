@@ -1,5 +1,5 @@
 -- Lists in which each element is changed, or tested, by a call.
-use Rattle.std.proofs.Common.{◌≡◌, ℕ, ◌+◌, ◌<◌, ◌≤◌, Bool, true, false, cond, List, filter, append-nil, [], ◌∷◌, ◌++◌, map, length, get_or, take, drop, set, subst, sym, refl, ap, ap₂, ◌∙◌, arith}
+use Rattle.std.proofs.Common.{◌≡◌, ℕ, ◌+◌, ◌<◌, ◌≤◌, Bool, true, false, cond, List, filter, [], ◌∷◌, ◌++◌, map, length, get_or, take, drop, set, subst, sym, refl, ap, ap₂, ◌∙◌, arith}
 use Rattle.std.specs.Borrow.{Bor, MutBor}
 use Rattle.std.specs.Fn.{Shared, FnReturnsAt}
 use Rattle.std.proofs.lemmas.List.{take_more, take_more_set, drop_more, drop-set-lt}

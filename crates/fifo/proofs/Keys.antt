@@ -150,11 +150,3 @@ module _ {X Y : Type 0} (g : X → Y) (f : Y → ℕ) where
 
 pub removed_map : {X Y : Type 0} (g : X → Y) (xs : List X) (i : ℕ) → map g (remove xs i) ≡ remove (map g xs) i
 removed_map g xs i = map-append g (take i xs) (drop (suc i) xs) ∙ simp (take-map, drop-map)
-
--- a write among the first n of the slots
-pub set_taken : {X : Type 0} (xs : List X) (n i : ℕ) (x : X) → i < n → take n (set xs i x) ≡ set (take n xs) i x
-set_taken [] zero i x lt = refl
-set_taken [] (suc n) i x lt = refl
-set_taken (y ∷ xs) zero i x lt = absurd (omega arith)
-set_taken (y ∷ xs) (suc n) zero x lt = refl
-set_taken (y ∷ xs) (suc n) (suc i) x lt = ap (λ l. y ∷ l) (set_taken xs n i x (omega arith))

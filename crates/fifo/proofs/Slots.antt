@@ -1,5 +1,5 @@
 -- Facts on the places of a list that its methods' proofs share.
-use Rattle.std.proofs.Common.{tests, lt-ltb, ◌≡◌, ℕ, zero, suc, ◌+◌, ◌-◌, ◌<◌, ◌≤◌, List, [], ◌∷◌, ◌++◌, length, get_or, take, drop, Bool, true, false, not, cond, eqb, ltb, Some, None, sym, refl, ap, ◌∙◌, ap₂, add-one, arith, length-drop}
+use Rattle.std.proofs.Common.{tests, lt-ltb, ◌≡◌, ℕ, suc, ◌+◌, ◌-◌, ◌<◌, ◌≤◌, List, [], ◌∷◌, ◌++◌, length, take, drop, Bool, true, false, not, cond, eqb, ltb, Some, None, sym, refl, ap, ◌∙◌, ap₂, add-one, arith, length-drop}
 use lib.Seq.{paste}
 use Rattle.std.specs.List.{remove}
 use Rattle.std.specs.List as by_test
@@ -7,9 +7,7 @@ use Rattle.std.specs.Option.{option_map}
 use Rattle.std.proofs.lemmas.List.{take-take, length-take-le}
 use Rattle.std.proofs.lemmas.Slice.{between_is}
 use Rattle.std.proofs.lemmas.List.Edits.{take-paste}
-use Rattle.std.proofs.lemmas.Bool.{eq-eqb, ne_eqb}
 use Rattle.fifo.specs.Lists.{position, lookup}
-use Rattle.fifo.proofs.Keys.{at_none}
 
 -- what stands behind `at`, copied to `at`, leaves the first n of the places without the one at `at`
 pub removed_is : {X : Type 0} (xs : List X) (n at : ℕ) → at < n → n ≤ length xs →

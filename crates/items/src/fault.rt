@@ -12,6 +12,7 @@ use values::fault::{FilterFault, Layer, Refusal};
 use values::value::Kind;
 
 // What is wrong with an item: its id or its mode, or its filter's fault as it came.
+// Its `refusal` and `name` stand under no trait: each fault enum has a table of its own, and only tests take any fault.
 #[derive(Clone, Copy)]
 pub enum ItemFault {
     MonitoredItemIdInvalid(u32),

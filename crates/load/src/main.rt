@@ -97,12 +97,7 @@ struct Plant {
 
 // Shows a node's value with a time.
 fn show(image: &mut ProcessImage, node: u32, value: f64, time: i64) -> Result<(), ServiceFault> {
-    let sample = Sample {
-        value: Value::Double(value),
-        status: 0,
-        time,
-    };
-    image.write(node, 11, sample)?;
+    image.write(node, 11, Sample::good(Value::Double(value), time))?;
     Ok(())
 }
 
@@ -186,10 +181,9 @@ fn publish(
 fn note(subscribers: &mut [Subscriber], response: &Response) {
     for subscriber in subscribers {
         if subscriber.id == response.subscription {
-            subscriber.number = match response.kind {
-                ResponseKind::Notifications => Some(response.number),
-                _ => None,
-            };
+            subscriber.number = (response.kind == ResponseKind::Notifications).then_some(
+                response.number,
+            );
         }
     }
 }

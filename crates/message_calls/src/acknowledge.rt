@@ -38,6 +38,7 @@ pub fn acknowledge_all(
     ensures after { state_of state.new ≡ after_acknowledging (state_of state.old) (all_acknowledged acknowledgements.now (slots state.old.subscriptions) (rows state.old.kept)) }
     ensures results { results.new ≡ over (all_acknowledged acknowledgements.now (slots state.old.subscriptions) (rows state.old.kept)).results results.old }
 {
+    // Not zipped with the results: a proof knows nothing of what is written through `zip` over `iter_mut`.
     for (i, acknowledgement) in acknowledgements.iter().enumerate() {
         results[i] = acknowledge(state, *acknowledgement);
     }

@@ -10,7 +10,7 @@ use numbers::numbers::Numbers;
 use values::notification::Notification;
 
 // What a response answers a request with: notifications, a keep-alive, the end of a subscription, or a refusal.
-#[derive(Clone, Copy)]
+#[derive(Clone, Copy, PartialEq, Eq)]
 pub enum ResponseKind {
     Notifications,
     KeepAlive,
@@ -20,8 +20,8 @@ pub enum ResponseKind {
 }
 
 // The response to the request `handle`: the first `kept_count` of the kept numbers and the first `count` of the
-// notifications, with zeros and empty notifications behind them. What a kind does not use is 0, false or empty. Arrays with
-// their counts for the reason given at `Message`.
+// notifications, with zeros and empty notifications behind them. What a kind does not use is 0, false or empty: one record
+// and no enum with fields, since a host gets every place. Arrays with their counts for the same reason.
 #[derive(Clone, Copy)]
 pub struct Response {
     pub kind: ResponseKind,

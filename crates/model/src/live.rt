@@ -34,7 +34,8 @@ impl EngineState {
         find_live(self, id).ok_or(ServiceFault::SubscriptionIdInvalid(id))
     }
 
-    // The subscription's item with this id, or the fault that there is none.
+    // The subscription's item with this id, or the fault that there is none. The two are two arguments here and in the calls, as
+    // a client names them: a record would be made for one call and taken apart in it.
     pub fn item(&self, subscription: u32, id: u32) -> Result<MonitoredItem, ItemFault>
         ensures value { option_map item_of (result_ok result) ≡ item_in subscription id (items_of self.now.items) }
         ensures fault { IfErr result (λ e. e ≡ ItemFault.MonitoredItemIdInvalid id) }

@@ -2,7 +2,8 @@ ghost use Rattle.std.specs.Prelude.{◌≡◌, ◌+◌, ◌<◌, length, slice_s
 
 use messages::response::Response;
 
-// The places for the responses of a tick, of which the first `written` are written.
+// The places for the responses of a tick, of which the first `written` are written: the caller's list, since the engine takes
+// no memory for one of its own.
 #[derive(Drop)]
 pub(crate) struct Responses<'a> {
     pub(crate) places: &'a mut [Response],

@@ -38,6 +38,7 @@ pub fn tick<S: Source>(
     ensures value { result ≡ (tick (S.Source.stands source.now) (state_of state.old) (length responses.old)).answer }
     ensures responses { responses.new ≡ over (tick (S.Source.stands source.now) (state_of state.old) (length responses.old)).responses responses.old }
 {
+    // As in the two other calls that write responses: a checked list would be a type that is taken apart at once.
     if responses.len() < 8 {
         return Err(ServiceFault::ListTooShort);
     }

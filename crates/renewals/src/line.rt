@@ -20,7 +20,8 @@ enum Reading {
     Ended(Option<Expiry>),
 }
 
-// The number with one more digit, where it stays within u32.
+// The number with one more digit, where it stays within u32. As in `script_numbers` at 64 bits, on which this crate does not
+// stand: two checked steps.
 fn with_digit(number: u32, digit: u8) -> Result<u32, Unreadable>
     ensures { result ≡ with_digit number digit }
 {
@@ -74,6 +75,7 @@ impl Reading {
         ensures { result ≡ step self byte }
     {
         match byte {
+            // The pattern shows a digit, and the difference is its value: `to_digit` would have a case that never comes.
             b'0'..=b'9' => self.digit(byte - b'0'),
             b' ' | b'\t' => self.blank(),
             b'\r' => self.carriage_return(),

@@ -13,6 +13,7 @@ pub enum Problem {
     Refused(SourceFault),
 }
 
+// Both by hand: a derived `From` has no contract, and clauses name the error that `?` makes.
 impl From<line::Unreadable> for Problem {
     ghost from_gives = { λ e r. r ≡ Unreadable };
 
@@ -23,7 +24,6 @@ impl From<line::Unreadable> for Problem {
     }
 }
 
-// Written by hand: what a derive of thiserror converts by `?` has no contract.
 impl From<SourceFault> for Problem {
     ghost from_gives = { λ e r. r ≡ Refused e };
 

@@ -12,7 +12,6 @@ use messages::message::Message;
 use messages::response::Response;
 use sources::source::Source;
 use std::alloc::{AllocError, Global};
-use values::notification::Notification;
 
 // Makes the call, and returns how many responses it wrote.
 fn perform<S: Source>(
@@ -86,11 +85,7 @@ fn perform<S: Source>(
             subscription,
             number,
         } => {
-            let mut message = Message {
-                number: 0,
-                count: 0,
-                notifications: [Notification::empty(); 16],
-            };
+            let mut message = Message::default();
             let _ = engine.republish(*subscription, *number, &mut message);
             0
         }

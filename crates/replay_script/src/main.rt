@@ -1,7 +1,8 @@
 // Runs a script of calls, one on a line of standard input, and prints what each call returned and wrote.
 #![tactic(auto)]
 
-mod lists;
+mod answer;
+mod error;
 mod output;
 mod session;
 

@@ -1,29 +1,9 @@
-// What is printed of answers, responses, notifications and samples.
-use answers::acknowledgement::AcknowledgementResult;
-use answers::fault::ServiceFault;
+// How responses, notifications and samples are printed.
 use items::waiting::Waiting;
-use messages::message::Message;
 use messages::response::Response;
-use std::{fmt, io};
-use values::fault::Refusal;
+use std::fmt;
 use values::notification::Notification;
 use values::value::{Sample, Value};
-
-// A refused call.
-#[derive(Clone, Copy)]
-struct Refused(ServiceFault);
-
-impl fmt::Display for Refused {
-    fn fmt<W: fmt::Write>(&self, f: &mut fmt::Formatter<W>) -> fmt::Result {
-        let fault = self.0;
-        let Refusal {
-            number,
-            layer,
-            place,
-        } = fault.refusal();
-        write!(f, "refused {number} {fault} {layer} {place}")
-    }
-}
 
 // Numbers with commas between them, `-` where there is none.
 #[derive(Clone, Copy)]
@@ -75,77 +55,64 @@ impl<'a> fmt::Display for Marked<'a> {
     }
 }
 
-pub(crate) fn print_refusal(rt: &HostRuntime, fault: ServiceFault) -> io::Result<()> {
-    rt.println(Refused(fault))
-}
+// The number of waiting samples and then each of them, `-` where there is none.
+#[derive(Clone, Copy)]
+pub(crate) struct Samples<'a>(pub(crate) &'a [Waiting]);
 
-// An answer without a value.
-pub(crate) fn print_unit(rt: &HostRuntime, answer: Result<(), ServiceFault>) -> io::Result<()> {
-    match answer {
-        Ok(()) => println!(rt; "ok"),
-        Err(fault) => print_refusal(rt, fault),
+impl<'a> fmt::Display for Samples<'a> {
+    fn fmt<W: fmt::Write>(&self, f: &mut fmt::Formatter<W>) -> fmt::Result {
+        let count = self.0.len();
+        if count == 0 {
+            return write!(f, "-");
+        }
+        write!(f, "{count}")?;
+        for waiting in self.0 {
+            let sample = Marked {
+                sample: &waiting.sample,
+                overflow: waiting.overflow,
+            };
+            write!(f, "\n  sample {sample}")?;
+        }
+        Ok(())
     }
 }
 
-pub(crate) fn print_waiting(rt: &HostRuntime, waiting: &Waiting) -> io::Result<()> {
-    let sample = Marked {
-        sample: &waiting.sample,
-        overflow: waiting.overflow,
-    };
-    println!(rt; "  sample {sample}")
+// Notifications, each on a line of its own.
+#[derive(Clone, Copy)]
+pub(crate) struct Notes<'a>(pub(crate) &'a [Notification]);
+
+impl<'a> fmt::Display for Notes<'a> {
+    fn fmt<W: fmt::Write>(&self, f: &mut fmt::Formatter<W>) -> fmt::Result {
+        for notification in self.0 {
+            let client_handle = notification.client_handle;
+            let sample = Marked {
+                sample: &notification.sample,
+                overflow: notification.overflow,
+            };
+            write!(f, "\n  note {client_handle} {sample}")?;
+        }
+        Ok(())
+    }
 }
 
-fn print_notification(rt: &HostRuntime, notification: &Notification) -> io::Result<()> {
-    let client_handle = notification.client_handle;
-    let sample = Marked {
-        sample: &notification.sample,
-        overflow: notification.overflow,
-    };
-    println!(rt; "  note {client_handle} {sample}")
-}
+// A response and its notifications.
+#[derive(Clone, Copy)]
+pub(crate) struct ShownResponse<'a>(pub(crate) &'a Response);
 
-pub(crate) fn print_message(rt: &HostRuntime, message: &Message) -> io::Result<()> {
-    let number = message.number;
-    let count = message.count;
-    println!(rt; "message {number} {count}")?;
-    for notification in message.carried() {
-        print_notification(rt, notification)?;
+impl<'a> fmt::Display for ShownResponse<'a> {
+    fn fmt<W: fmt::Write>(&self, f: &mut fmt::Formatter<W>) -> fmt::Result {
+        let response = self.0;
+        let kind = response.kind.letter();
+        let handle = response.handle;
+        let subscription = response.subscription;
+        let number = response.number;
+        let more = u8::from(response.more);
+        let count = response.count;
+        let kept = Numbers(response.shown_numbers());
+        let notes = Notes(response.shown_notifications());
+        write!(
+            f,
+            "{kind} {handle} {subscription} {number} {more} {count} kept {kept}{notes}"
+        )
     }
-    Ok(())
-}
-
-fn print_response(rt: &HostRuntime, response: &Response) -> io::Result<()> {
-    let kind = response.kind.letter();
-    let handle = response.handle;
-    let subscription = response.subscription;
-    let number = response.number;
-    let more = u8::from(response.more);
-    let count = response.count;
-    let kept = Numbers(response.shown_numbers());
-    println!(rt; "{kind} {handle} {subscription} {number} {more} {count} kept {kept}")?;
-    for notification in response.shown_notifications() {
-        print_notification(rt, notification)?;
-    }
-    Ok(())
-}
-
-// The number of responses, and then each of them.
-pub(crate) fn print_responses(
-    rt: &HostRuntime,
-    answer: Result<usize, ServiceFault>,
-    results: &[AcknowledgementResult],
-    responses: &[Response],
-) -> io::Result<()> {
-    let count = match answer {
-        Ok(count) => count,
-        Err(fault) => return print_refusal(rt, fault),
-    };
-    println!(rt; "ok {count}")?;
-    for result in results {
-        println!(rt; "ack {result}")?;
-    }
-    for response in responses.iter().take(count) {
-        print_response(rt, response)?;
-    }
-    Ok(())
 }

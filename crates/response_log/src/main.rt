@@ -19,12 +19,7 @@ use values::value::{Sample, Value};
 fn plant() -> Result<ProcessImage, ServiceFault> {
     let mut image = ProcessImage::new();
     for node in [1, 2] {
-        let sample = Sample {
-            value: Value::Int32(20),
-            status: 0,
-            time: 0,
-        };
-        image.write(node, 6, sample)?;
+        image.write(node, 6, Sample::good(Value::Int32(20), 0))?;
     }
     Ok(image)
 }
@@ -100,6 +95,7 @@ fn scenes(source: ProcessImage, heap: Global) -> Result<Vec<Scene<ProcessImage>>
     Ok(scenes)
 }
 
+// As the script program begins its line; one text for both would want a crate for six fields.
 fn show(rt: &HostRuntime, response: &Response) -> io::Result<()> {
     let kind = response.kind.letter();
     let handle = response.handle;

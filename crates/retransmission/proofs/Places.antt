@@ -7,10 +7,6 @@ use Rattle.messages.specs.declared.message.Message.{Message}
 use Rattle.messages.specs.Messages.{number_of}
 use Rattle.retransmission.specs.Kept.{room_for}
 
--- the element read past the end of the messages
-abbrev pub no_message : Message
-no_message = record { number = 0; count = 0; notifications = [] }
-
 module _ (n : ℕ) (ms : List Message) where
   pub absent : position number_of n ms ≡ None → false ≡ is_some (lookup number_of n ms)
   absent e = sym (ap is_some (lookup_none number_of n ms e))

@@ -4,7 +4,8 @@ use messages::message::Message;
 mod queue;
 mod table;
 
-// The messages kept of one subscription, at most eight, oldest first.
+// The messages kept of one subscription, at most eight, oldest first. A type of its own: how room is made for a message is said
+// of it alone.
 #[derive(Clone, Copy)]
 pub(crate) struct RetransmissionQueue {
     messages: BoundedList<Message, 8>,

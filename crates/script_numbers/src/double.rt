@@ -14,6 +14,7 @@ enum Reading {
     Fraction(u64, u32),
 }
 
+// Two checked steps, as in `number`: one function for both would take the base and the value of the digit apart again.
 fn more(number: u64, digit: u64) -> Option<u64>
     ensures { result ≡ more number digit }
 {
@@ -65,6 +66,7 @@ impl Reading {
         ensures { result ≡ on_byte self byte }
     {
         match byte {
+            // The pattern shows a digit, and the difference is its value: `to_digit` would have a case that never comes.
             b'0'..=b'9' => self.digit(byte - b'0'),
             b'.' => self.point(),
             _ => None,

@@ -4,7 +4,7 @@ ghost use Rattle.script_numbers.specs.Numbers.{digit_of, with_digit, numeral_of,
 use script_words::text::after;
 
 // The number with one more digit of the base, unless it leaves u64. Bases are 10 and 16: two `requires` of three functions
-// here are shorter than a type for them.
+// here are as short as a type for them.
 fn with_digit(base: u32, number: u64, byte: u8) -> Option<u64>
     requires low { 2 ≤ base }
     requires high { base ≤ 16 }

@@ -5,9 +5,6 @@ use Rattle.std.proofs.lemmas.List.{drop_more}
 use Rattle.std.proofs.Math.ListN.{drop_of_length-le}
 use Rattle.script_words.specs.Words.{without_return}
 
-ends_in : List ℕ → Bool
-ends_in s = pointwise eqb (drop (length s - 1) s) (13 ∷ [])
-
 and-true : (b : Bool) → (b && true) ≡ b
 and-true true = refl
 and-true false = refl

@@ -30,7 +30,7 @@ pub fn content(line: &[u8]) -> &[u8]
     &line[..place(line, |byte| byte == b'#')]
 }
 
-// The first word, empty if there is none, and what follows it.
+// The first word, empty if there is none, and what follows it: a word is never empty, so that no Option is wanted beside it.
 fn first_word(content: &[u8]) -> (&[u8], &[u8])
     ensures some { 0 < length result.0.now → words_in content.now ≡ result.0.now ∷ words_in result.1.now }
     ensures none { length result.0.now ≡ 0 → (words_in content.now ≡ []) × (words_in result.1.now ≡ []) }
@@ -60,7 +60,7 @@ impl<'a> Iterator for Words<'a> {
     }
 }
 
-// The word with this index; empty if there are not so many.
+// The word with this index; empty if there are not so many, as the definitions of the commands have it.
 pub fn word(content: &[u8], index: usize) -> &[u8]
     ensures { result.now ≡ slice_index_or (words_in content.now) index [] }
 {

@@ -12,7 +12,3 @@ joined before (Err e) = Err e
 pub joined_more : (before : List Acknowledgement) (a : Acknowledgement) (r : Result (List Acknowledgement) Expected) → joined (before ++ a ∷ []) r ≡ joined before (with_first (Some a) r)
 joined_more before a (Ok xs) = ap Ok (append_assoc before (a ∷ []) xs)
 joined_more before a (Err e) = refl
-
-pub joined_none : (r : Result (List Acknowledgement) Expected) → joined [] r ≡ r
-joined_none (Ok xs) = refl
-joined_none (Err e) = refl

@@ -1,5 +1,5 @@
 -- What the words of a command stand for, by their index. A word that is not there is empty.
-use Rattle.std.specs.Prelude.{ℕ, suc, Bool, true, false, cond, List, [], ◌∷◌, length, take, drop, ℤ, pos, Some, None, Ok, Err, codes, Option, Result, ◌==◌, slice_index_or, Float}
+use Rattle.std.specs.Prelude.{◌≡◌, ℕ, suc, Bool, true, false, cond, List, [], ◌∷◌, length, take, drop, ℤ, pos, Some, None, Ok, Err, codes, Option, Result, ◌==◌, slice_index_or, Float}
 use Rattle.std.specs.List.{position}
 use Rattle.std.specs.Option.{ok_or}
 use Rattle.values.specs.declared.value.Value.{Value}
@@ -16,6 +16,11 @@ use Rattle.scripts.specs.declared.expected.Expected.TheVariants as expected
 -- the words that are not read yet
 abbrev pub left : Arguments → List (List ℕ)
 left a = words_in a.words.rest.now
+
+-- one word is read
+pub record TookWord (old new : Arguments) : Type 0 where
+  pub words : left new ≡ drop 1 (left old)
+  pub other : new.other ≡ old.other
 
 -- goes on with what was read
 abbrev pub reading : {X Y : Type 0} → Result X Expected → (X → Result Y Expected) → Result Y Expected

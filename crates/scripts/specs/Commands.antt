@@ -10,7 +10,7 @@ use Rattle.script_words.specs.Words.{words_of}
 use Rattle.subscriptions.specs.declared.parameters.SubscriptionParameters.{SubscriptionParameters}
 use Rattle.scripts.specs.Arguments.{reading, word_at, number_at, signed_at, status_at, time_at, count_at, double_at, switch_at, policy_at, value_at, end_at, acknowledgements_of}
 use Rattle.scripts.specs.declared.command.Command.{Command}
-use Rattle.scripts.specs.declared.command.Command.TheVariants.{New, Split, Write, Certificate, Today, Room, Results, ResultsMatch, CreateSubscription, ModifySubscription, DeleteSubscription, SetPublishing, CreateItem, ModifyItem, DeleteItem, SetMode, Publish, Republish, Tick, Queued, Kept, Waiting}
+use Rattle.scripts.specs.declared.command.Command.TheVariants.{New, Split, Write, Certificate, Today, Room, Results, CreateSubscription, ModifySubscription, DeleteSubscription, SetPublishing, CreateItem, ModifyItem, DeleteItem, SetMode, Publish, Republish, Tick, Queued, Kept, Waiting}
 use Rattle.scripts.specs.declared.expected.Expected.{Expected}
 use Rattle.scripts.specs.declared.expected.Expected.TheVariants as expected
 use Rattle.scripts.specs.declared.verb.Verb.{Verb}
@@ -29,7 +29,6 @@ said (Certificate a b) = Plain (Certificate a b)
 said (Today a) = Plain (Today a)
 said (Room a) = Plain (Room a)
 said (Results a) = Plain (Results a)
-said ResultsMatch = Plain ResultsMatch
 said (CreateSubscription a b) = Plain (CreateSubscription a b)
 said (ModifySubscription a b) = Plain (ModifySubscription a b)
 said (DeleteSubscription a) = Plain (DeleteSubscription a)
@@ -206,8 +205,8 @@ write_of ws other =
 -- results N, or results match
 abbrev pub results_of : List (List ℕ) → Result Said Expected
 results_of ws =
-    cond (is_text (word_at ws 1) (codes "match")) (only ws 2 ResultsMatch)
-    (reading (ok_or (number_of (word_at ws 1)) expected.NumberOrMatch) (λ count. only ws 2 (Results count)))
+    cond (is_text (word_at ws 1) (codes "match")) (only ws 2 (Results None))
+    (reading (ok_or (number_of (word_at ws 1)) expected.NumberOrMatch) (λ count. only ws 2 (Results (Some count))))
 
 -- TRIGGER TYPE D MS SIZE oldest|newest
 abbrev pub monitoring_of : List (List ℕ) → ℕ → Option Float → Result MonitoringParameters Expected

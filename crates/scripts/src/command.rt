@@ -20,8 +20,8 @@ pub enum Command {
     },
     Today(u32),
     Room(u32),
-    Results(u32),
-    ResultsMatch,
+    // The length of the result list, none for that of the acknowledgements.
+    Results(Option<u32>),
     CreateSubscription {
         parameters: SubscriptionParameters,
         enabled: bool,

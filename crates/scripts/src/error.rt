@@ -11,6 +11,7 @@ pub enum ParseError {
     Memory(AllocError),
 }
 
+// Both by hand: a derived `From` has no contract, and clauses name the error that `?` makes.
 impl From<Expected> for ParseError {
     ghost from_gives = { λ expected e. e ≡ Expected expected };
 

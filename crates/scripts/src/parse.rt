@@ -29,7 +29,8 @@ fn library_double(word: &[u8]) -> Option<f64> {
     from_utf8(word).ok()?.parse::<f64>().ok()
 }
 
-// What the standard library reads of the line's Double, in the place where its command has one.
+// What the standard library reads of the line's Double, in the place where its command has one. Texts are compared one by
+// one here too: a match on byte strings is proved byte by byte.
 pub fn other_double(line: &[u8]) -> Option<f64> {
     let content = content(line);
     let first = word(content, 0);

@@ -68,9 +68,10 @@ fn results(arguments: &mut Arguments) -> Result<Command, Expected>
 {
     let word = arguments.word();
     if is_text(word, b"match") {
-        return Ok(Command::ResultsMatch);
+        return Ok(Command::Results(None));
     }
-    Ok(Command::Results(number(word).ok_or(Expected::NumberOrMatch)?))
+    let places = number(word).ok_or(Expected::NumberOrMatch)?;
+    Ok(Command::Results(Some(places)))
 }
 
 fn create_item(arguments: &mut Arguments) -> Result<Command, Expected>

@@ -5,6 +5,7 @@ use std::fmt;
 use values::fault::{Layer, Refusal};
 
 // Why a source refuses a row, at the row's node, or a day, at 0.
+// Its `refusal` and `name` stand under no trait: each fault enum has a table of its own, and only tests take any fault.
 #[derive(Clone, Copy)]
 pub enum SourceFault {
     TableFull(u32),

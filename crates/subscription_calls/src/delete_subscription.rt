@@ -19,6 +19,7 @@ fn answer_all(requests: &mut Numbers, responses: &mut [Response]) -> usize
     ensures responses { responses.new ≡ over (map (refusing NoSubscription) (items requests.old)) responses.old }
 {
     let handles = requests.as_slice();
+    // Not zipped with the responses: a proof knows nothing of what is written through `zip` over `iter_mut`.
     for (i, handle) in handles.iter().enumerate() {
         responses[i] = Response::no_subscription(*handle);
     }

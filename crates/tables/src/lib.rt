@@ -1,4 +1,5 @@
-// Bounded lists of records that a model sees without their facts, each record with a key.
+// Bounded lists of records that a model sees without their facts, each record with a key. The functions hand on to the lists'
+// methods: what they promise is said of the plain data, which the lists know nothing of.
 #![tactic(auto)]
 
 ghost use Rattle.std.specs.Prelude.{◌≡◌, ℕ, ◌<◌, ◌≤◌, [], ◌∷◌, ◌++◌, map, length, slice_index_or, slice_set};

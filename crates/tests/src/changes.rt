@@ -47,11 +47,7 @@ fn deadbands(rt: HostRuntime) -> Result<(), Fail> {
     let time = requested(2, 0, 10.0)
         .check(Kind::Double, 1)
         .map_err(|_| "refused")?;
-    let later = Sample {
-        value: Value::Double(1.0),
-        status: 0,
-        time: 1,
-    };
+    let later = Sample::good(Value::Double(1.0), 1);
     assert!(rt; time.is_change(&good(Value::Double(1.0)), &later));
     Ok(())
 }

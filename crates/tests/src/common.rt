@@ -36,9 +36,5 @@ pub fn requested(trigger: u32, deadband: u32, deadband_value: f64) -> RequestedF
 }
 
 pub fn good(value: Value) -> Sample {
-    Sample {
-        value,
-        status: 0,
-        time: 0,
-    }
+    Sample::good(value, 0)
 }

@@ -10,3 +10,4 @@ pub mod Edges
 pub mod Ticks
 pub mod Notifications
 pub mod Swap
+pub mod Samples

@@ -6,7 +6,7 @@ use crate::fault::FilterFault;
 use crate::filter::{Deadband, Filter, Trigger};
 use crate::value::Kind;
 
-// A filter as a client asks for it: any numbers.
+// A filter as a client asks for it: any numbers, since a refusal is what an unknown code is answered with.
 #[derive(Clone, Copy)]
 pub struct RequestedFilter {
     pub trigger: u32,

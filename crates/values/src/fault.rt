@@ -36,7 +36,7 @@ impl fmt::Display for Layer {
 }
 
 // What a host is told of a refused call: the refusal's number, its layer, and the place: an id, a node or 0. The number is
-// what hosts and logs know a refusal by; in the code the fault enums tell refusals apart.
+// what hosts, logs and tests know a refusal by; the code tells refusals apart by the fault enums.
 #[derive(Clone, Copy)]
 pub struct Refusal {
     pub number: u32,
@@ -45,6 +45,7 @@ pub struct Refusal {
 }
 
 // What is wrong with a requested filter, at the node or the item id that it was given for.
+// Its `refusal` and `name` stand under no trait: each fault enum has a table of its own, and only tests take any fault.
 #[derive(Clone, Copy)]
 pub enum FilterFault {
     MonitoredItemFilterInvalid(u32),

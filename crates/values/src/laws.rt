@@ -50,17 +50,6 @@ pub fn compare_number_with_itself<N: Number>(filter: &CheckedFilter, number: N) 
     filter.filter.is_number_change(number, number)
 }
 
-// A good sample at time 0.
-fn good(value: Value) -> Sample
-    ensures { result ≡ good_sample value }
-{
-    Sample {
-        value,
-        status: 0,
-        time: 0,
-    }
-}
-
 // Whether a good value is a change against the last one, where numbers may lie `d` apart.
 fn differ(d: f64, last: Value, new: Value) -> bool
     ensures { result ≡ changed (with_absolute d) (good_sample last) (good_sample new) }
@@ -70,7 +59,7 @@ fn differ(d: f64, last: Value, new: Value) -> bool
         deadband: Deadband::Absolute,
         deadband_value: d,
     };
-    filter.is_change(&good(last), &good(new))
+    filter.is_change(&Sample::good(last, 0), &Sample::good(new, 0))
 }
 
 fn int32_edges() -> [bool; 4]

@@ -24,6 +24,7 @@ fn difference(larger: i32, smaller: i32) -> f64
     ensures exact { (d : Float) → lt d result ≡ beyond_int d larger smaller }
     ensures turned { (d : Float) → lt d result ≡ beyond_int d smaller larger }
 {
+    // By `as`, of which the check finds that it is exact; of `f64::from` it does not.
     larger as f64 - smaller as f64
 }
 

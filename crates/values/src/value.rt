@@ -1,6 +1,7 @@
 ghost use Rattle.std.specs.Prelude.{◌≡◌};
 ghost use Rattle.values.specs.Kinds.{kind_of, fitting};
 ghost use Rattle.values.specs.Codes.{known_code};
+ghost use Rattle.values.specs.Samples.{good_at};
 
 use crate::code::UnknownCode;
 
@@ -57,5 +58,18 @@ impl Value {
                 | (Kind::Int32, Value::Int32(_))
                 | (Kind::Double, Value::Double(_))
         )
+    }
+}
+
+impl Sample {
+    // A value with the status Good.
+    pub fn good(value: Value, time: i64) -> Self
+        ensures { result ≡ good_at value time }
+    {
+        Sample {
+            value,
+            status: 0,
+            time,
+        }
     }
 }

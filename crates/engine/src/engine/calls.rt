@@ -93,7 +93,8 @@ impl Engine {
         delete_subscription(&mut self.state, id, responses)
     }
 
-    // A new item on a node that the source knows: its id and its revised parameters.
+    // A new item on a node that the source knows: its id and its revised parameters. The mode may be any number, since a refusal
+    // is what an unknown one is answered with.
     pub fn create_item<S: Source>(
         &mut self,
         source: &S,
@@ -135,7 +136,7 @@ impl Engine {
         delete_item(&mut self.state, subscription, item)
     }
 
-    // Disabled 0, sampling 1, reporting 2.
+    // Disabled 0, sampling 1, reporting 2; any number may be asked for, as in `create_item`.
     pub fn set_monitoring_mode(
         &mut self,
         subscription: u32,

@@ -4,6 +4,7 @@ ghost use Rattle.fifo.specs.Changes.{ChangedAt, EachChanged, Retained};
 
 use crate::bounded::BoundedList;
 
+// Over a slice, since a place of an array is not lent where ghost fields stand beside it.
 fn change<T, R, F: FnOnce(&mut T) -> R>(places: &mut [T], i: usize, f: F) -> R
     requires within { i < length places.old }
     requires callable { F.IsAlwaysCallable f }
@@ -13,7 +14,7 @@ fn change<T, R, F: FnOnce(&mut T) -> R>(places: &mut [T], i: usize, f: F) -> R
     f(place)
 }
 
-// Changes each of the first `len` records.
+// Changes each of the first `len` records: over a slice for the same reason.
 fn change_each<T, F: Fn(&mut T)>(places: &mut [T], len: usize, f: F)
     requires fits { len ≤ length places.old }
     requires callable { F.IsAlwaysCallable f }

@@ -69,7 +69,7 @@ impl RetransmissionTable {
         ensures value { result ≡ nat_lt (length (rows self.now)) 4 }
         ensures room { result ≡ true → length (rows self.now) < 4 }
     {
-        tables::in_use(&self.rows).len() < 4
+        !self.rows.is_full()
     }
 
     fn push(&mut self, subscription: u32)
@@ -79,7 +79,8 @@ impl RetransmissionTable {
         tables::push(&mut self.rows, Retransmission::new(subscription));
     }
 
-    // A row for a new subscription, of which nothing is kept; false where four have one.
+    // A row for a new subscription, of which nothing is kept; false where four have one. A plain answer to a question, as in
+    // `acknowledge`: no value stands beside it.
     pub fn open(&mut self, subscription: u32) -> bool
         ensures value { result ≡ nat_lt (length (rows self.old)) 4 }
         ensures after { rows self.new ≡ opening subscription (rows self.old) }

@@ -87,14 +87,11 @@ fn shown(row: &Expiry, today: u32) -> Standing
     requires day { today ≤ 1000000 }
     ensures { Some result ≡ standing_of_expiry today (Some row.now) }
 {
+    // By `as`: both are at most 1,000,000, and a `try_from` would have a case that never comes.
     let days_left = row.end_day as i32 - today as i32;
     Standing {
         kind: Kind::Int32,
-        sample: Sample {
-            value: Value::Int32(days_left),
-            status: 0,
-            time: today as i64 * DAY_STEPS,
-        },
+        sample: Sample::good(Value::Int32(days_left), i64::from(today) * DAY_STEPS),
     }
 }
 

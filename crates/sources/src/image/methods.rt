@@ -52,7 +52,8 @@ impl ProcessImage {
         Ok(Row { node, kind, sample })
     }
 
-    // Replaces the node's row or adds one. The kind is the one given here, so a node's kind may change.
+    // Replaces the node's row or adds one. The kind is the one given here, so a node's kind may change. Its code may be any
+    // number, since a refusal is what an unknown one is answered with.
     #[tactic(auto, using(crate::specs::Puts::every_put, crate::specs::Puts::lookup_put))]
     pub fn write(&mut self, node: u32, code: u32, sample: Sample) -> Result<(), SourceFault>
         ensures value { result ≡ answer (writing (image_rows self.old) node code sample) }

@@ -38,7 +38,7 @@ impl Table {
         ensures value { result ≡ (length (slots self.now) == 4) }
         ensures room { result ≡ false → length (slots self.now) < 4 }
     {
-        self.len() == 4
+        self.rows.is_full()
     }
 
     // The subscription in the slot at `i`.

@@ -1,4 +1,4 @@
-use Rattle.std.proofs.Common.{◌≡◌, ◌+◌, ◌≤◌, cond, List, [], ◌∷◌, ◌++◌, length, get_or, take, subst, sym, refl, ap, ◌∙◌, arith, rules, length-take, append-nil}
+use Rattle.std.proofs.Common.{◌≡◌, ◌+◌, ◌≤◌, cond, [], ◌∷◌, ◌++◌, length, get_or, take, subst, sym, ap, ◌∙◌, arith, rules, length-take, append-nil}
 use Rattle.fifo.specs.Bounded.{items}
 use Rattle.fifo.specs.Changes.{Retained}
 use Rattle.fifo.proofs.Changed.{one_tested, no_longer}

@@ -1,4 +1,4 @@
-use Rattle.std.proofs.Common.{refl, arith, rules}
+use Rattle.std.proofs.Common.{refl, arith}
 use Rattle.fifo.proofs.Changed.{one_more}
 use Rattle.fifo.proofs.bounded.changes.change_each.Goals as goal
 
