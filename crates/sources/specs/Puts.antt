@@ -1,6 +1,6 @@
 -- Tables of rows: what a row put into one is found as, and what all rows pass.
-use Rattle.std.specs.Prelude.{◌≡◌, ℕ, suc, ◌<◌, Bool, true, false, cond, List, [], ◌∷◌, ◌++◌, length, is_some, Some, None, Option, ◌==◌, refl}
-use Rattle.std.proofs.Common.{set, sym, ap, ◌∙◌, arith}
+use Rattle.std.specs.Prelude.{◌≡◌, ℕ, suc, ◌<◌, ◌≤◌, Bool, true, false, cond, List, [], ◌∷◌, ◌++◌, length, is_some, Some, None, Option, ◌==◌, nat_lt, refl}
+use Rattle.std.proofs.Common.{set, sym, ap, ◌∙◌, arith, le-ltb}
 use Rattle.std.specs.Option.{option_map}
 use Rattle.std.proofs.lemmas.Bool.Decides.{nat_tests}
 use Rattle.fifo.specs.Lists.{position, lookup, replaced}
@@ -27,6 +27,10 @@ module _ {X : Type 0} (f : X → ℕ) where
       at false None h = ap (λ l. x ∷ l) h
       at false (Some j) h = ap (λ l. x ∷ l) h
 
+  -- a row put in where its node has one takes that row's place
+  pub put_found : (y : X) (xs : List X) (i : ℕ) → position f (f y) xs ≡ Some i → put f y xs ≡ replaced f y xs
+  put_found y xs i e = put_is y xs ∙ rw e refl
+
   pub put_at : (k i : ℕ) (y : X) (xs : List X) → k ≡ f y → position f k xs ≡ Some i → set xs i y ≡ put f y xs
   put_at k i y xs h e = set_position f k xs i y (sym h) e ∙ sym (put_is y xs ∙ rw (sym h, e) refl)
 
@@ -51,6 +55,19 @@ module _ {X : Type 0} (f : X → ℕ) where
       at true true q g l ih = let z : y ≡ x = cc in ap p (sym z) ∙ q
       at false true q g l ih = ih g l
       at b false q g l ih = absurd (let z : ◌≡◌ {A = ℕ} 0 1 = ap (λ t. cond t 1 0) g in omega arith)
+
+  some_position : (k : ℕ) (xs : List X) → is_some (position f k xs) ≡ is_some (lookup f k xs)
+  some_position k [] = refl
+  some_position k (x ∷ xs) = at (f x == k) (position f k xs) (some_position k xs)
+    where
+      at : (b : Bool) (o : Option ℕ) → is_some o ≡ is_some (lookup f k xs) → is_some (cond b (Some 0) (option_map suc o)) ≡ is_some (cond b (Some x) (lookup f k xs))
+      at true o ih = refl
+      at false None ih = ih
+      at false (Some j) ih = ih
+
+  -- a full table has room for the nodes it has
+  pub room_full : (k : ℕ) (xs : List X) → 64 ≤ length xs → is_some (position f k xs) ≡ has_room f k xs
+  room_full k xs h = let e : nat_lt (length xs) 64 ≡ false = le-ltb (length xs) 64 h in some_position k xs ∙ sym (ap (λ b. cond b true (is_some (lookup f k xs))) e)
 
   -- where a node has no row, room is room for one more
   pub room_new : (j k : ℕ) (xs : List X) → j ≡ k → has_room f k xs ≡ true → position f j xs ≡ None → length xs < 64
