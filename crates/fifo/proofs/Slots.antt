@@ -1,5 +1,5 @@
 -- Facts on the places of a list that its methods' proofs share.
-use Rattle.std.proofs.Common.{tests, lt-ltb, ◌≡◌, ℕ, suc, ◌+◌, ◌-◌, ◌<◌, ◌≤◌, List, [], ◌∷◌, ◌++◌, length, take, drop, Bool, true, false, not, cond, eqb, ltb, Some, None, sym, refl, ap, ◌∙◌, ap₂, add-one, arith, length-drop}
+use Rattle.std.proofs.Common.{tests, lt-ltb, ◌≡◌, ℕ, zero, suc, ◌+◌, ◌-◌, ◌<◌, ◌≤◌, List, [], ◌∷◌, ◌++◌, length, get_or, take, drop, Bool, true, false, not, cond, eqb, ltb, Some, None, sym, refl, ap, ◌∙◌, ap₂, add-one, arith, length-drop}
 use lib.Seq.{paste}
 use Rattle.std.specs.List.{remove}
 use Rattle.std.specs.List as by_test
@@ -7,7 +7,9 @@ use Rattle.std.specs.Option.{option_map}
 use Rattle.std.proofs.lemmas.List.{take-take, length-take-le}
 use Rattle.std.proofs.lemmas.Slice.{between_is}
 use Rattle.std.proofs.lemmas.List.Edits.{take-paste}
-use Rattle.fifo.specs.Lists.{position, lookup}
+use Rattle.fifo.specs.Lists.{position}
+use Rattle.fifo.proofs.Keys.{at_none}
+use Rattle.std.proofs.lemmas.Bool.{eq-eqb, ne_eqb}
 
 -- what stands behind `at`, copied to `at`, leaves the first n of the places without the one at `at`
 pub removed_is : {X : Type 0} (xs : List X) (n at : ℕ) → at < n → n ≤ length xs →
@@ -52,6 +54,24 @@ module _ {X : Type 0} (f : X → ℕ) (k : ℕ) where
       by true n e = rw (least (length xs)) refl
       by false n e = rw (lifted n (length xs)) (further (ltb n (length xs)) n ∙ ap (option_map suc) e)
 
-  pub find_is : (xs : List X) → by_test.find (λ x. eqb (f x) k) xs ≡ lookup f k xs
-  find_is [] = refl
-  find_is (x ∷ xs) = ap (cond (eqb (f x) k) (Some x)) (find_is xs)
+-- a search that found nothing before i, and x, which stands at i
+module _ {X : Type 0} (f : X → ℕ) (k : ℕ) where
+  pub found : (xs : List X) (n i : ℕ) (x : X) → i < n → i < length xs → x ≡ get_or xs i x → f x ≡ k →
+      position f k (take i xs) ≡ None → Some i ≡ position f k (take n xs)
+  found [] n i x lt l e hit none = absurd (omega arith)
+  found (y ∷ xs) zero i x lt l e hit none = absurd (omega arith)
+  found (y ∷ xs) (suc n) zero x lt l e hit none = rw (eq-eqb (f y) k (ap f (sym e) ∙ hit))
+  found (y ∷ xs) (suc n) (suc i) x lt l e hit none =
+      let m = at_none f k y (take i xs) none in
+      rw m.0 (ap (option_map suc) (found xs n i x (omega arith) (omega arith) e hit m.1))
+
+  pub passed : (xs : List X) (i : ℕ) (x : X) → i < length xs → x ≡ get_or xs i x → (f x ≡ k → ⊥) →
+      position f k (take i xs) ≡ None → position f k (take (i + 1) xs) ≡ None
+  passed xs i x l e miss none = ap (λ n. position f k (take n xs)) (add-one i) ∙ next xs i l e none
+    where
+      next : (xs : List X) (i : ℕ) → i < length xs → x ≡ get_or xs i x →
+          position f k (take i xs) ≡ None → position f k (take (suc i) xs) ≡ None
+      next [] i l e none = refl
+      next (y ∷ xs) zero l e none = rw (ne_eqb (f y) k (λ h. miss (ap f e ∙ h)))
+      next (y ∷ xs) (suc i) l e none =
+          let m = at_none f k y (take i xs) none in rw m.0 (ap (option_map suc) (next xs i (omega arith) e m.1))

@@ -3,6 +3,7 @@ ghost use Rattle.model.specs.State.{state_of};
 ghost use Rattle.model.specs.Monitoring.{delete_item};
 
 use answers::fault::ServiceFault;
+use items::fault::ItemFault;
 use model::state::EngineState;
 
 // The item goes, with what waits of it.
@@ -15,7 +16,10 @@ pub fn delete_item(
     ensures value { result ≡ (delete_item (state_of state.old) subscription item).answer }
 {
     let owner = state.live_subscription(subscription)?;
-    state.item(subscription, item)?;
+    // Not by `EngineState::item`, whose `Result` holds the item, which is copied once more.
+    if state.items.find(subscription, item).is_none() {
+        return Err(ItemFault::MonitoredItemIdInvalid(item).into());
+    }
     state.items.remove(item);
     state.reset_idle(owner);
     Ok(())

@@ -6,21 +6,21 @@ use items::item::MonitoredItem;
 use subscriptions::parameters::RevisedSubscription;
 
 // What a client is told of a new subscription.
-#[derive(Clone, Copy)]
+#[derive(Clone, Copy, Debug, Default, PartialEq, Eq, PartialOrd, Ord, Hash)]
 pub struct CreatedSubscription {
     pub id: u32,
     pub revised: RevisedSubscription,
 }
 
 // What a client is told of an item: its sampling interval in ticks and its queue size.
-#[derive(Clone, Copy)]
+#[derive(Clone, Copy, Debug, Default, PartialEq, Eq, PartialOrd, Ord, Hash)]
 pub struct RevisedItem {
     pub interval: u32,
     pub queue_size: u32,
 }
 
 // What a client is told of a new item.
-#[derive(Clone, Copy)]
+#[derive(Clone, Copy, Debug, Default, PartialEq, Eq, PartialOrd, Ord, Hash)]
 pub struct CreatedItem {
     pub id: u32,
     pub revised: RevisedItem,

@@ -28,6 +28,13 @@ fn list_of<T: Copy>(heap: Global, blank: T, places: usize) -> Result<Vec<T>, Cal
     vec![in heap; blank; places].map_err(|_| CallError::NoMemory(places))
 }
 
+fn print(rt: &HostRuntime, answer: Result<Answer, CallError>) -> io::Result<()> {
+    match answer {
+        Ok(answer) => rt.println(answer),
+        Err(error) => rt.println(error),
+    }
+}
+
 impl Session {
     pub(crate) fn new() -> Self {
         Session {
@@ -98,10 +105,17 @@ impl Session {
         Ok(Answer::Message(message))
     }
 
-    // Makes a command's call.
+    // Out of line: every other command would pay for the places of a new engine too.
+    #[inline(never)]
+    fn begin(&mut self, first_id: u32) {
+        self.engine = Engine::new(first_id);
+    }
+
+    // Makes a command's call. Out of line, so that each tick of many does not pay for the locals of all calls.
+    #[inline(never)]
     fn call(&mut self, heap: Global, command: &Command) -> Result<Answer, CallError> {
         match command {
-            Command::New(first_id) => self.engine = Engine::new(*first_id),
+            Command::New(first_id) => self.begin(*first_id),
             Command::Split(split) => self.plant.split = *split,
             Command::Room(room) => self.room = *room,
             Command::Results(places) => self.results = *places,
@@ -177,15 +191,11 @@ impl Session {
 
     // Makes a command's call and prints its answer, a tick as often as the command says.
     pub(crate) fn run(&mut self, rt: &HostRuntime, command: &Command) -> io::Result<()> {
-        let times = match command {
-            Command::Tick(count) => *count,
-            _ => 1,
+        let Command::Tick(count) = command else {
+            return print(rt, self.call(rt.alloc(), command));
         };
-        for _ in 0..times {
-            match self.call(rt.alloc(), command) {
-                Ok(answer) => rt.println(answer)?,
-                Err(error) => rt.println(error)?,
-            }
+        for _ in 0..*count {
+            print(rt, self.tick(rt.alloc()))?;
         }
         Ok(())
     }

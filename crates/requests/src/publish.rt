@@ -33,11 +33,5 @@ pub fn publish(
         return Err(ServiceFault::TooManyOperations);
     }
     acknowledge_all(state, acknowledgements, results);
-    match take_request(state, handle) {
-        Some(response) => {
-            responses[0] = response;
-            Ok(1)
-        }
-        None => Ok(0),
-    }
+    Ok(take_request(state, handle, responses))
 }

@@ -1,3 +1,4 @@
 mod Rests
 mod Splits
 mod Returns
+mod Places

@@ -4,10 +4,7 @@ use Rattle.std.specs.List.{prefix_len, take_while}
 use Rattle.std.proofs.lemmas.List.{length-drop, get_or-drop}
 use Rattle.std.proofs.lemmas.List.Sums.{prefix_len_stops}
 use Rattle.std.proofs.lemmas.Grind.{common_steps}
-use Rattle.script_words.specs.Words.{is_blank, ended, words_from, words_in}
-
-abbrev pub is_visible : ℕ → Bool
-is_visible b = not (is_blank b)
+use Rattle.script_words.specs.Words.{is_blank, is_visible, ended, words_from, words_in}
 
 drop_after : (n x : ℕ) (xs : List ℕ) → drop (1 + n) (x ∷ xs) ≡ drop n xs
 drop_after n x xs = grind (arith, common_steps)

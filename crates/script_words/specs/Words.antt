@@ -1,10 +1,25 @@
 -- The words of a line.
-use Rattle.std.specs.Prelude.{ℕ, ◌-◌, Bool, cond, ◌||◌, List, [], ◌∷◌, ◌++◌, length, take, ◌==◌, slice_index}
+use Rattle.std.specs.Prelude.{ℕ, suc, ◌-◌, Bool, cond, not, ◌||◌, List, [], ◌∷◌, ◌++◌, length, take, ◌==◌, slice_index}
 use Rattle.std.specs.List.{before_first}
+use Rattle.script_words.specs.declared.words.Class.{Class}
+use Rattle.script_words.specs.declared.words.Class.TheVariants.{Blank, Visible, Byte}
 
 -- a space or a tab
 abbrev pub is_blank : ℕ → Bool
 is_blank b = b == 32 || b == 9
+
+abbrev pub is_visible : ℕ → Bool
+is_visible b = not (is_blank b)
+
+abbrev pub in_class : Class → ℕ → Bool
+in_class Blank b = is_blank b
+in_class Visible b = is_visible b
+in_class (Byte wanted) b = b == wanted
+
+-- the place of the first byte with the property, or the length
+abbrev pub place : (ℕ → Bool) → List ℕ → ℕ
+place p [] = 0
+place p (b ∷ bs) = cond (p b) 0 (suc (place p bs))
 
 -- without a carriage return as the last byte
 abbrev pub without_return : List ℕ → List ℕ

@@ -1,6 +1,6 @@
 ghost use Rattle.std.specs.Prelude.{◌≡◌, ℕ, ◌<◌, ◌≤◌, true, false, [], ◌∷◌, length, slice_index, slice_index_or};
 ghost use Rattle.std.specs.Iterator.{YieldsFirstRef, item_count};
-ghost use Rattle.script_words.specs.Words.{is_blank, content_of, words_in};
+ghost use Rattle.script_words.specs.Words.{is_blank, in_class, place, content_of, words_in};
 
 // Spaces and tabs part words.
 fn is_blank(byte: u8) -> bool
@@ -9,8 +9,37 @@ fn is_blank(byte: u8) -> bool
     byte == b' ' || byte == b'\t'
 }
 
+// What is looked for in the bytes of a line.
+#[derive(Clone, Copy)]
+pub enum Class {
+    Blank,
+    Visible,
+    Byte(u8),
+}
+
+impl Class {
+    fn has(self, byte: u8) -> bool
+        ensures { result ≡ in_class self byte }
+    {
+        match self {
+            Class::Blank => is_blank(byte),
+            Class::Visible => !is_blank(byte),
+            Class::Byte(wanted) => byte == wanted,
+        }
+    }
+}
+
+// The place of the first byte of the class, or the end.
+// It stands beside `first_place` since it asks nothing of its callers.
+pub fn place(bytes: &[u8], class: Class) -> usize
+    ensures value { result ≡ place (in_class class) bytes.now }
+    ensures bound { result ≤ length bytes.now }
+{
+    first_place(bytes, |byte| class.has(byte))
+}
+
 // The place of the first byte that passes the test, or the end.
-pub fn place<F: Fn(u8) -> bool>(bytes: &[u8], test: F) -> usize
+pub fn first_place<F: Fn(u8) -> bool>(bytes: &[u8], test: F) -> usize
     requires { F.IsAlwaysCallable test }
     ensures before { (k : ℕ) → k < result → F.post test (slice_index bytes.now k) false }
     ensures found { result < length bytes.now → F.post test (slice_index bytes.now result) true }
@@ -27,7 +56,7 @@ pub fn content(line: &[u8]) -> &[u8]
     ensures { result.now ≡ content_of line.now }
 {
     let line = line.strip_suffix(b"\r").unwrap_or(line);
-    &line[..place(line, |byte| byte == b'#')]
+    &line[..first_place(line, |byte| byte == b'#')]
 }
 
 // The first word, empty if there is none, and what follows it: a word is never empty, so that no Option is wanted beside it.
@@ -35,9 +64,9 @@ fn first_word(content: &[u8]) -> (&[u8], &[u8])
     ensures some { 0 < length result.0.now → words_in content.now ≡ result.0.now ∷ words_in result.1.now }
     ensures none { length result.0.now ≡ 0 → (words_in content.now ≡ []) × (words_in result.1.now ≡ []) }
 {
-    let start = place(content, |byte| !is_blank(byte));
+    let start = first_place(content, |byte| !is_blank(byte));
     let behind = &content[start..];
-    behind.split_at(place(behind, is_blank))
+    behind.split_at(first_place(behind, is_blank))
 }
 
 // The words of a line's content that are not read yet.

@@ -9,7 +9,7 @@ pub struct SubscriptionParameters {
 }
 
 // What a client is told of a subscription: its revised publishing interval in ticks, and its revised counts.
-#[derive(Clone, Copy)]
+#[derive(Clone, Copy, Debug, Default, PartialEq, Eq, PartialOrd, Ord, Hash)]
 pub struct RevisedSubscription {
     pub interval: u32,
     pub keep_alive: u32,

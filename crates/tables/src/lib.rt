@@ -2,6 +2,8 @@
 // methods: what they promise is said of the plain data, which the lists know nothing of.
 #![tactic(auto)]
 
+pub mod places;
+
 ghost use Rattle.std.specs.Prelude.{◌≡◌, ℕ, ◌<◌, ◌≤◌, [], ◌∷◌, ◌++◌, map, length, slice_index_or, slice_set};
 ghost use Rattle.std.specs.Option.{option_map};
 ghost use Rattle.fifo.specs.Lists.{lookup, replaced, without};

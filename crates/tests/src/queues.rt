@@ -1,6 +1,7 @@
-// Bounded lists of three kinds of record.
+// The queue functions and bounded lists at three kinds of record.
 use fifo::bounded::BoundedList;
-use fifo::keyed::Keyed;
+use fifo::queue;
+use fifo::queue::Keyed;
 use numbers::numbers::Numbers;
 use std::test::Fail;
 
@@ -25,6 +26,17 @@ struct Pair {
 
 #[test]
 fn numbers(rt: HostRuntime) {
+    let mut slots: [u32; 2] = [0; 2];
+    queue::push(&mut slots, 0, 7);
+    queue::push(&mut slots, 1, 8);
+    assert_eq!(rt; queue::find(&slots, 2, 8), Some(1));
+    assert_eq!(rt; queue::find(&slots, 1, 8), None);
+    assert_eq!(rt; queue::pop(&mut slots, 2), Some(7));
+    assert_eq!(rt; queue::remove(&mut slots, 1, 0), 8);
+}
+
+#[test]
+fn number_list(rt: HostRuntime) {
     let mut numbers: BoundedList<u32, 2> = BoundedList::new();
     numbers.push(7);
     assert_eq!(rt; numbers.find(8), None);
@@ -32,10 +44,22 @@ fn numbers(rt: HostRuntime) {
     assert_eq!(rt; numbers.find(8), Some(1));
     assert_eq!(rt; numbers.pop(), Some(7));
     assert_eq!(rt; numbers.remove_at(0), 8);
+    // The 8 still lies in a place that is not in use.
+    numbers.push(7);
+    assert_eq!(rt; numbers.find(8), None);
 }
 
 #[test]
 fn entries(rt: HostRuntime) {
+    let mut slots = [Entry { id: 0 }; 2];
+    queue::push(&mut slots, 0, Entry { id: 5 });
+    assert!(rt; queue::lookup(&slots, 1, 5).is_some());
+    assert!(rt; queue::lookup(&slots, 1, 0).is_none());
+    assert_eq!(rt; queue::remove(&mut slots, 1, 0).id, 5);
+}
+
+#[test]
+fn entry_list(rt: HostRuntime) {
     let mut entries: BoundedList<Entry, 2> = BoundedList::with_blank(Entry { id: 0 });
     entries.push(Entry { id: 5 });
     assert!(rt; entries.lookup(5).is_some());
@@ -45,6 +69,16 @@ fn entries(rt: HostRuntime) {
 
 #[test]
 fn pairs(rt: HostRuntime) -> Result<(), Fail> {
+    let mut slots = [Pair { left: 0, right: 0 }; 2];
+    queue::push(&mut slots, 0, Pair { left: 1, right: 2 });
+    queue::push(&mut slots, 1, Pair { left: 3, right: 4 });
+    assert_eq!(rt; queue::pop(&mut slots, 2).ok_or("empty")?.right, 2);
+    assert_eq!(rt; slots[0].left, 3);
+    Ok(())
+}
+
+#[test]
+fn pair_list(rt: HostRuntime) -> Result<(), Fail> {
     let mut pairs: BoundedList<Pair, 2> = BoundedList::with_blank(Pair { left: 0, right: 0 });
     pairs.push(Pair { left: 1, right: 2 });
     pairs.push(Pair { left: 3, right: 4 });

@@ -43,17 +43,20 @@ impl<T: Copy, const N: usize> BoundedList<T, N> {
         change_each(&mut self.places, self.len, f);
     }
 
-    // The records that the test passes stay, in order.
+    // The records that the test passes stay, in order. By index, since they move up within the array: a copy of the list to go
+    // over would cost all `N` places at each call, however few are in use.
     pub fn retain<F: Fn(&T) -> bool>(&mut self, keep: F)
         requires { F.IsAlwaysCallable keep }
         ensures { Retained F.Fn keep (items self.old) (items self.new) }
     {
-        let all = *self;
-        self.clear();
-        for x in all.as_slice() {
-            if keep(x) {
-                self.push(*x);
+        let mut kept = 0;
+        for i in 0..self.len {
+            let x = self.places[i];
+            if keep(&x) {
+                self.places[kept] = x;
+                kept += 1;
             }
         }
+        self.len = kept;
     }
 }

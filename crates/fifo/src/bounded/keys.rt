@@ -19,7 +19,8 @@ impl<T: Keyed, const N: usize> BoundedList<T, N> {
     pub fn get(&self, key: u32) -> Option<&T>
         ensures { option_map (λ x. x.now) result ≡ lookup T.Keyed.tag key (items self.now) }
     {
-        self.as_slice().iter().find(|x| x.key() == key)
+        let place = self.find(key)?;
+        Some(&self.places[place])
     }
 
     // The first record with this key.

@@ -4,9 +4,10 @@ ghost use Rattle.fifo.specs.Lists.{none, first, rest};
 ghost use Rattle.fifo.specs.Bounded.{items};
 
 use crate::bounded::BoundedList;
+use crate::queue;
 
 impl<T: Copy + Default, const N: usize> BoundedList<T, N> {
-    // An empty list, whose places hold default records.
+    // An empty list, of records that have a default.
     pub fn new() -> Self
         ensures { items result ≡ [] }
     {
@@ -15,7 +16,7 @@ impl<T: Copy + Default, const N: usize> BoundedList<T, N> {
 }
 
 impl<T: Copy, const N: usize> BoundedList<T, N> {
-    // An empty list, whose places hold the blank record.
+    // An empty list; the record serves to fill its places.
     pub fn with_blank(blank: T) -> Self
         ensures { items result ≡ [] }
     {
@@ -64,7 +65,7 @@ impl<T: Copy, const N: usize> BoundedList<T, N> {
         requires { length (items self.old) < N }
         ensures { items self.new ≡ items self.old ++ x ∷ [] }
     {
-        self.places[self.len] = x;
+        queue::push(&mut self.places, self.len, x);
         self.len += 1;
     }
 
@@ -82,8 +83,7 @@ impl<T: Copy, const N: usize> BoundedList<T, N> {
         ensures value { result ≡ slice_index_or (items self.old) i result }
         ensures after { items self.new ≡ remove (items self.old) i }
     {
-        let x = self.places[i];
-        self.places.copy_within(i + 1..self.len, i);
+        let x = queue::remove(&mut self.places, self.len, i);
         self.len -= 1;
         x
     }
@@ -95,10 +95,9 @@ impl<T: Copy, const N: usize> BoundedList<T, N> {
         ensures len { MatchOption result (length (items self.old) ≡ 0)
             (λ _. length (items self.new) + 1 ≡ length (items self.old)) }
     {
-        if self.is_empty() {
-            return None;
-        }
-        Some(self.remove_at(0))
+        let x = queue::pop(&mut self.places, self.len)?;
+        self.len -= 1;
+        Some(x)
     }
 
     pub fn clear(&mut self)

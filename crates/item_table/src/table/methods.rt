@@ -69,7 +69,9 @@ impl ItemTable {
     pub fn find(&self, subscription: u32, id: u32) -> Option<MonitoredItem>
         ensures { option_map item_of result ≡ item_in subscription id (items_of self.now) }
     {
-        tables::lookup(&self.rows, id).filter(|item| item.identity.subscription == subscription)
+        tables::get(&self.rows, id)
+            .filter(|item| item.identity.subscription == subscription)
+            .copied()
     }
 
     // Puts the item in the place of the one with its id.

@@ -1,4 +1,3 @@
-use Rattle.std.proofs.Common.{Bor}
 use Rattle.tables.proofs.Plain.{plain_read}
 use Rattle.tables.proofs.get.Goals as goal
 

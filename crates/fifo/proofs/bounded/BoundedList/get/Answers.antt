@@ -1,11 +1,10 @@
-use Rattle.std.proofs.Common.{rules, tests, eqb, ◌∙◌}
-use Rattle.std.proofs.lemmas.Iterator.{YieldsList-from_slice}
-use Rattle.std.proofs.lemmas.Iterator.Search.{find_from_yields_List}
-use Rattle.fifo.proofs.Slots.{find_is}
+use Rattle.std.proofs.Common.{rules}
+use Rattle.std.proofs.lemmas.List.{get_or-take}
+use Rattle.fifo.proofs.Keys.{lookup_position, lookup_none}
 use Rattle.fifo.proofs.bounded.BoundedList.get.Goals as goal
 
+pub returns-in_err-place : goal.returns-in_err-place
+returns-in_err-place g c = search (rules, lookup_none)
+
 pub returns : goal.returns
-returns g c =
-    find_from_yields_List (λ x. eqb (g.T.Keyed.tag x) c.args.key) _ _ _ c.find.ensures.ran
-    (YieldsList-from_slice _ (c.iter.ensures.rest ∙ c.as_slice.ensures.value)) (λ x b q k. search (rules, tests))
-    ∙ find_is g.T.Keyed.tag c.args.key _
+returns g c = search (rules, lookup_position, get_or-take)
